@@ -1,0 +1,5 @@
+pub mod Table
+pub mod Immediates
+pub mod Reading
+pub mod Fitting
+pub mod Refusals

@@ -1,0 +1,13 @@
+//! The instructions of RV32I: their mnemonics and classes, the table of their codes, and what an instruction is.
+
+mod instruction;
+mod mnemonic;
+mod refusal;
+mod table;
+
+pub use instruction::Instruction;
+pub use mnemonic::Class;
+pub use mnemonic::Format;
+pub use mnemonic::Mnemonic;
+pub use refusal::Refusal;
+pub use table::Row;

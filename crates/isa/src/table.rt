@@ -1,3 +1,4 @@
+ghost use Prim.Native.Nat.{_^_, _<_};
 ghost use mathlib.Core.Path.{_≡_};
 ghost use Rattle.isa.specs.Table.{rowOf};
 use super::mnemonic::Class;
@@ -30,7 +31,8 @@ fn entry(class: Class, format: Format, opcode: u8, funct3: u8, funct7: u8) -> Ro
 impl Mnemonic {
     /// The mnemonic's row.
     pub fn row(self) -> Row
-        ensures { λ r. ⌜ r ≡ rowOf self ⌝ }
+        ensures value { λ r. ⌜ r ≡ rowOf self ⌝ }
+        ensures bound { λ r. ⌜ (r .opcode < 2 ^ 7) × (r .funct3 < 2 ^ 3) × (r .funct7 < 2 ^ 7) ⌝ }
     {
         match self {
             Mnemonic::Add => entry(Class::Comp, Format::Register, 0b0110011, 0b000, 0b0000000),

@@ -1,0 +1,11 @@
+//! The encoder: the word of an instruction, and that decoder and encoder undo one another.
+
+mod assembly;
+mod encoder;
+mod formats;
+mod immediates;
+mod round_trips;
+
+pub use encoder::encode;
+pub use round_trips::decode_encoded;
+pub use round_trips::encode_decoded;

@@ -14,7 +14,7 @@ use isa::Mnemonic;
 use isa::Refusal;
 
 // The mnemonic of the class COMP with these codes.
-pub fn comp(funct3: u32, funct7: u32) -> Result<Mnemonic, Refusal>
+pub(super) fn comp(funct3: u32, funct7: u32) -> Result<Mnemonic, Refusal>
     ensures only { λ r. ⌜ ((m : Mnemonic) → Selects m 0b0110011 funct3 funct7 → r ≡ Ok m) ⌝ }
     ensures names { λ r. ⌜ Cases r (λ m. Selects m 0b0110011 funct3 funct7 × (rowOf m .format ≡ Register)) (λ e. numberOf e ≡ 3) ⌝ }
 {
@@ -34,7 +34,7 @@ pub fn comp(funct3: u32, funct7: u32) -> Result<Mnemonic, Refusal>
 }
 
 // The instruction of the class COMPI that `word` reads as; `funct3` and `funct7` are its fields.
-pub fn comp_immediate(word: u32, funct3: u32, funct7: u32) -> Result<Instruction, Refusal>
+pub(super) fn comp_immediate(word: u32, funct3: u32, funct7: u32) -> Result<Instruction, Refusal>
     requires { ⌜ field 0 7 word ≡ 0b0010011 ⌝ ∗ ⌜ field 12 3 word ≡ funct3 ⌝ ∗ ⌜ field 25 7 word ≡ funct7 ⌝ }
     ensures only { λ r. ⌜ ((i : Instruction) → Reads word i → r ≡ Ok i) ⌝ }
     ensures reads { λ r. ⌜ Cases r (λ i. Reads word i) (λ e. numberOf e ≡ 3) ⌝ }
@@ -54,7 +54,7 @@ pub fn comp_immediate(word: u32, funct3: u32, funct7: u32) -> Result<Instruction
 }
 
 // The mnemonic of the class LD.
-pub fn load(funct3: u32) -> Result<Mnemonic, Refusal>
+pub(super) fn load(funct3: u32) -> Result<Mnemonic, Refusal>
     ensures only { λ r. ⌜ ((m : Mnemonic) (g : ℕ) → Selects m 0b0000011 funct3 g → r ≡ Ok m) ⌝ }
     ensures names { λ r. ⌜ Cases r (λ m. ((g : ℕ) → Selects m 0b0000011 funct3 g) × (rowOf m .format ≡ Immediate)) (λ e. numberOf e ≡ 3) ⌝ }
 {
@@ -69,7 +69,7 @@ pub fn load(funct3: u32) -> Result<Mnemonic, Refusal>
 }
 
 // The mnemonic of the class ST.
-pub fn store(funct3: u32) -> Result<Mnemonic, Refusal>
+pub(super) fn store(funct3: u32) -> Result<Mnemonic, Refusal>
     ensures only { λ r. ⌜ ((m : Mnemonic) (g : ℕ) → Selects m 0b0100011 funct3 g → r ≡ Ok m) ⌝ }
     ensures names { λ r. ⌜ Cases r (λ m. ((g : ℕ) → Selects m 0b0100011 funct3 g) × (rowOf m .format ≡ Store)) (λ e. numberOf e ≡ 3) ⌝ }
 {
@@ -82,7 +82,7 @@ pub fn store(funct3: u32) -> Result<Mnemonic, Refusal>
 }
 
 // The mnemonic of the class BR.
-pub fn branch(funct3: u32) -> Result<Mnemonic, Refusal>
+pub(super) fn branch(funct3: u32) -> Result<Mnemonic, Refusal>
     ensures only { λ r. ⌜ ((m : Mnemonic) (g : ℕ) → Selects m 0b1100011 funct3 g → r ≡ Ok m) ⌝ }
     ensures names { λ r. ⌜ Cases r (λ m. ((g : ℕ) → Selects m 0b1100011 funct3 g) × (rowOf m .format ≡ Branch)) (λ e. numberOf e ≡ 3) ⌝ }
 {

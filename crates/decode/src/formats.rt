@@ -24,7 +24,7 @@ fn signed(x: u32, width: u32) -> i64
     i64::from(sign_extend(x, width).cast_signed())
 }
 
-pub fn r_type(mnemonic: Mnemonic, word: u32) -> Instruction
+pub(super) fn r_type(mnemonic: Mnemonic, word: u32) -> Instruction
     ensures { λ r. ⌜ r ≡ inFormat Register mnemonic word ⌝ }
 {
     Instruction {
@@ -36,7 +36,7 @@ pub fn r_type(mnemonic: Mnemonic, word: u32) -> Instruction
     }
 }
 
-pub fn i_type(mnemonic: Mnemonic, word: u32) -> Instruction
+pub(super) fn i_type(mnemonic: Mnemonic, word: u32) -> Instruction
     ensures { λ r. ⌜ r ≡ inFormat Immediate mnemonic word ⌝ }
 {
     Instruction {
@@ -49,7 +49,7 @@ pub fn i_type(mnemonic: Mnemonic, word: u32) -> Instruction
 }
 
 // The format I of a shift.
-pub fn h_type(mnemonic: Mnemonic, word: u32) -> Instruction
+pub(super) fn h_type(mnemonic: Mnemonic, word: u32) -> Instruction
     ensures { λ r. ⌜ r ≡ inFormat Shift mnemonic word ⌝ }
 {
     Instruction {
@@ -61,7 +61,7 @@ pub fn h_type(mnemonic: Mnemonic, word: u32) -> Instruction
     }
 }
 
-pub fn s_type(mnemonic: Mnemonic, word: u32) -> Instruction
+pub(super) fn s_type(mnemonic: Mnemonic, word: u32) -> Instruction
     ensures { λ r. ⌜ r ≡ inFormat Store mnemonic word ⌝ }
 {
     let immediate = (field(word, 25, 7) << 5) + field(word, 7, 5);
@@ -74,7 +74,7 @@ pub fn s_type(mnemonic: Mnemonic, word: u32) -> Instruction
     }
 }
 
-pub fn b_type(mnemonic: Mnemonic, word: u32) -> Instruction
+pub(super) fn b_type(mnemonic: Mnemonic, word: u32) -> Instruction
     ensures { λ r. ⌜ r ≡ inFormat Branch mnemonic word ⌝ }
 {
     let immediate = (field(word, 31, 1) << 12)
@@ -90,7 +90,7 @@ pub fn b_type(mnemonic: Mnemonic, word: u32) -> Instruction
     }
 }
 
-pub fn u_type(mnemonic: Mnemonic, word: u32) -> Instruction
+pub(super) fn u_type(mnemonic: Mnemonic, word: u32) -> Instruction
     ensures { λ r. ⌜ r ≡ inFormat Upper mnemonic word ⌝ }
 {
     Instruction {
@@ -102,7 +102,7 @@ pub fn u_type(mnemonic: Mnemonic, word: u32) -> Instruction
     }
 }
 
-pub fn j_type(mnemonic: Mnemonic, word: u32) -> Instruction
+pub(super) fn j_type(mnemonic: Mnemonic, word: u32) -> Instruction
     ensures { λ r. ⌜ r ≡ inFormat Jump mnemonic word ⌝ }
 {
     let immediate = (field(word, 31, 1) << 20)

@@ -11,7 +11,7 @@ use Rattle.std.proofs.shelf.Signed.{ints}
 use Rattle.std.proofs.shelf.Tests.{cases-lt}
 use Rattle.bits.specs.Field.{field}
 use Rattle.bits.specs.Sign.{signedOf}
-use Rattle.bits.proofs.Extend.{doubled, top-clear, top-set}
+use Rattle.bits.proofs.SignExtension.{doubled, top-clear, top-set}
 use Rattle.isa.specs.declared.instruction.Instruction.{Instruction}
 use Rattle.isa.specs.declared.mnemonic.Format.{Format}
 use Rattle.isa.specs.declared.mnemonic.Format.the-variants.{Store, Branch, Jump}

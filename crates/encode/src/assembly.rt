@@ -3,7 +3,7 @@ ghost use mathlib.Core.Path.{_≡_};
 ghost use Rattle.bits.specs.Field.{field};
 
 // The word of six fields.
-pub fn assemble(opcode: u8, rd: u32, funct3: u8, rs1: u8, rs2: u32, funct7: u32) -> u32
+pub(super) fn assemble(opcode: u8, rd: u32, funct3: u8, rs1: u8, rs2: u32, funct7: u32) -> u32
     requires codes { ⌜ opcode < 2 ^ 7 ⌝ ∗ ⌜ funct3 < 2 ^ 3 ⌝ ∗ ⌜ funct7 < 2 ^ 7 ⌝ }
     requires registers { ⌜ rd < 32 ⌝ ∗ ⌜ rs1 < 32 ⌝ ∗ ⌜ rs2 < 32 ⌝ }
     ensures opcode { λ r. ⌜ field 0 7 r ≡ opcode ⌝ }
@@ -22,7 +22,7 @@ pub fn assemble(opcode: u8, rd: u32, funct3: u8, rs1: u8, rs2: u32, funct7: u32)
 }
 
 // The word of an opcode, a register and the twenty bits above them.
-pub fn assemble_upper(opcode: u8, rd: u8, upper: u32) -> u32
+pub(super) fn assemble_upper(opcode: u8, rd: u8, upper: u32) -> u32
     requires { ⌜ opcode < 2 ^ 7 ⌝ ∗ ⌜ rd < 32 ⌝ ∗ ⌜ upper < 2 ^ 20 ⌝ }
     ensures opcode { λ r. ⌜ field 0 7 r ≡ opcode ⌝ }
     ensures rd { λ r. ⌜ field 7 5 r ≡ rd ⌝ }

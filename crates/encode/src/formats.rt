@@ -11,7 +11,7 @@ use isa::Instruction;
 use isa::Refusal;
 use isa::Row;
 
-pub fn r_type(row: Row, i: &Instruction) -> Result<u32, Refusal>
+pub(super) fn r_type(row: Row, i: &Instruction) -> Result<u32, Refusal>
     requires { ⌜ Coded row ⌝ }
     ensures only { λ r. ⌜ Only Register row (now (i .entry)) r ⌝ }
     ensures written { λ r. ⌜ Written Register row (now (i .entry)) r ⌝ }
@@ -29,7 +29,7 @@ pub fn r_type(row: Row, i: &Instruction) -> Result<u32, Refusal>
     ))
 }
 
-pub fn i_type(row: Row, i: &Instruction) -> Result<u32, Refusal>
+pub(super) fn i_type(row: Row, i: &Instruction) -> Result<u32, Refusal>
     requires { ⌜ Coded row ⌝ }
     ensures only { λ r. ⌜ Only Immediate row (now (i .entry)) r ⌝ }
     ensures written { λ r. ⌜ Written Immediate row (now (i .entry)) r ⌝ }
@@ -51,7 +51,7 @@ pub fn i_type(row: Row, i: &Instruction) -> Result<u32, Refusal>
 }
 
 // The format I of a shift.
-pub fn h_type(row: Row, i: &Instruction) -> Result<u32, Refusal>
+pub(super) fn h_type(row: Row, i: &Instruction) -> Result<u32, Refusal>
     requires { ⌜ Coded row ⌝ }
     ensures only { λ r. ⌜ Only Shift row (now (i .entry)) r ⌝ }
     ensures written { λ r. ⌜ Written Shift row (now (i .entry)) r ⌝ }
@@ -69,7 +69,7 @@ pub fn h_type(row: Row, i: &Instruction) -> Result<u32, Refusal>
     ))
 }
 
-pub fn s_type(row: Row, i: &Instruction) -> Result<u32, Refusal>
+pub(super) fn s_type(row: Row, i: &Instruction) -> Result<u32, Refusal>
     requires { ⌜ Coded row ⌝ }
     ensures only { λ r. ⌜ Only Store row (now (i .entry)) r ⌝ }
     ensures written { λ r. ⌜ Written Store row (now (i .entry)) r ⌝ }
@@ -90,7 +90,7 @@ pub fn s_type(row: Row, i: &Instruction) -> Result<u32, Refusal>
     }
 }
 
-pub fn b_type(row: Row, i: &Instruction) -> Result<u32, Refusal>
+pub(super) fn b_type(row: Row, i: &Instruction) -> Result<u32, Refusal>
     requires { ⌜ Coded row ⌝ }
     ensures only { λ r. ⌜ Only Branch row (now (i .entry)) r ⌝ }
     ensures written { λ r. ⌜ Written Branch row (now (i .entry)) r ⌝ }
@@ -107,7 +107,7 @@ pub fn b_type(row: Row, i: &Instruction) -> Result<u32, Refusal>
     }
 }
 
-pub fn u_type(row: Row, i: &Instruction) -> Result<u32, Refusal>
+pub(super) fn u_type(row: Row, i: &Instruction) -> Result<u32, Refusal>
     requires { ⌜ Coded row ⌝ }
     ensures only { λ r. ⌜ Only Upper row (now (i .entry)) r ⌝ }
     ensures written { λ r. ⌜ Written Upper row (now (i .entry)) r ⌝ }
@@ -122,7 +122,7 @@ pub fn u_type(row: Row, i: &Instruction) -> Result<u32, Refusal>
     Ok(assemble_upper(row.opcode, i.rd, x >> 12))
 }
 
-pub fn j_type(row: Row, i: &Instruction) -> Result<u32, Refusal>
+pub(super) fn j_type(row: Row, i: &Instruction) -> Result<u32, Refusal>
     requires { ⌜ Coded row ⌝ }
     ensures only { λ r. ⌜ Only Jump row (now (i .entry)) r ⌝ }
     ensures written { λ r. ⌜ Written Jump row (now (i .entry)) r ⌝ }

@@ -8,7 +8,7 @@ ghost use Rattle.encode.specs.Words.{Within};
 use bits::field;
 
 // The `width` bits that stand for `z` in two's complement, if it has that many.
-pub fn cut(z: i64, width: u32) -> Option<u32>
+pub(super) fn cut(z: i64, width: u32) -> Option<u32>
     requires { ⌜ 0 < width ⌝ ∗ ⌜ width < 32 ⌝ }
     ensures { λ r. ⌜ BySome r (Within width z → ⊥) (λ x. (x < 2 ^ width) × (signedOf width x ≡ z)) ⌝ }
 {
@@ -24,7 +24,7 @@ pub fn cut(z: i64, width: u32) -> Option<u32>
 }
 
 // The fields rd and funct7 of a branch whose offset has the bits `x`.
-pub fn branch_slots(x: u32) -> (u32, u32)
+pub(super) fn branch_slots(x: u32) -> (u32, u32)
     requires { ⌜ x < 2 ^ 13 ⌝ ∗ ⌜ x % 2 ≡ 0 ⌝ }
     ensures bounds { λ r. ⌜ r .0 < 32 ⌝ ∗ ⌜ r .1 < 2 ^ 7 ⌝ }
     ensures back { λ r. ⌜ ((w : ℕ) → field 7 5 w ≡ r .0 → field 25 7 w ≡ r .1 → immB w ≡ x) ⌝ }
@@ -36,7 +36,7 @@ pub fn branch_slots(x: u32) -> (u32, u32)
 }
 
 // The upper twenty bits of a jump whose offset has the bits `x`.
-pub fn jump_slot(x: u32) -> u32
+pub(super) fn jump_slot(x: u32) -> u32
     requires { ⌜ x < 2 ^ 21 ⌝ ∗ ⌜ x % 2 ≡ 0 ⌝ }
     ensures bound { λ r. ⌜ r < 2 ^ 20 ⌝ }
     ensures back { λ r. ⌜ ((w : ℕ) → field 12 20 w ≡ r → immJ w ≡ x) ⌝ }

@@ -7,7 +7,7 @@ use mir.Syntax.{w32}
 use Rattle.std.proofs.shelf.Signed.{ints}
 use Rattle.bits.specs.Field.{field}
 use Rattle.bits.specs.Sign.{extended, signedOf}
-use Rattle.bits.proofs.Extend.{keeps-number}
+use Rattle.bits.proofs.SignExtension.{keeps-number}
 use Rattle.decode.proofs.formats.signed.Needs as need
 
 pub returns : need.returns

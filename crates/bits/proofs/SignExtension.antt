@@ -48,6 +48,10 @@ module _ (width x : ℕ) where
       rw (top-set some fits hi) (ap (toZ w32) same ∙ toZ-neg w32 m half ∙ back))
       (cases-lt x (2 ^ (width - 1)))
 
+  -- a number of no bits is 0
+  pub none : width ≡ 0 → x < 2 ^ width → x ≡ extended width x
+  none e fits = let zero : x < 1 = rw e at fits in rw e (omega arith)
+
   -- of 32 bits or more nothing is left to fill
   pub whole : 32 ≤ width → x ≡ extended width x
   whole most =

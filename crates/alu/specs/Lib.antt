@@ -1,0 +1,4 @@
+pub mod Operations
+pub mod Comparisons
+pub mod Loads
+pub mod Stores

@@ -1,0 +1,17 @@
+-- What the reader makes of bytes that begin with a header.
+use Prim.Native.Nat.{ℕ}
+use mathlib.Core.List.{List, _++_}
+use mathlib.Core.Path.{_≡_}
+use Rattle.std.specs.declared.result.Result.the-variants.{Ok}
+use Rattle.benchfile.specs.Format.{Contents, judged, fileOf}
+
+-- with any image behind them, the bytes get the verdict on these four numbers and that image
+abbrev pub Gets-the-verdict : List ℕ → ℕ → ℕ → ℕ → ℕ → Type 0
+Gets-the-verdict bytes start base size limit =
+    (image : List ℕ) → fileOf (bytes ++ image) ≡ judged start base size limit image
+
+-- if the bytes are accepted with an image behind them, these numbers and that image are read back
+abbrev pub Reads-back : List ℕ → ℕ → ℕ → ℕ → Type 0
+Reads-back bytes start base limit =
+    (image : List ℕ) (file : Contents) → fileOf (bytes ++ image) ≡ Ok file →
+    file ≡ record { start = start; base = base; limit = limit; image = image }

@@ -1,0 +1,10 @@
+//! Bench files: a 24-byte header, then the image that a machine starts from.
+mod file;
+mod reader;
+mod refusals;
+mod writer;
+
+pub use file::BenchFile;
+pub use reader::read;
+pub use refusals::Refusal;
+pub use writer::header;

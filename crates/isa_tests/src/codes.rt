@@ -25,7 +25,17 @@ fn word_of(opcode: u32, funct3: u32, funct7: u32) -> u32 {
 
 #[test]
 fn opcodes() -> Result<(), Fail> {
-    let read = [0b0110011, 0b0010011, 0b0110111, 0b0010111, 0b0000011, 0b0100011, 0b1101111, 0b1100111, 0b1100011];
+    let read = [
+        0b0110011,
+        0b0010011,
+        0b0110111,
+        0b0010111,
+        0b0000011,
+        0b0100011,
+        0b1101111,
+        0b1100111,
+        0b1100011,
+    ];
     for opcode in 0..128 {
         check_eq(decode(opcode).is_ok(), read.contains(&opcode))?;
     }
@@ -77,8 +87,14 @@ fn compi(funct3: u32, funct7: u32) -> Option<Mnemonic> {
 fn every_funct3_and_funct7() -> Result<(), Fail> {
     for funct3 in 0..8 {
         for funct7 in 0..128 {
-            check_eq(mnemonic(word_of(0b0110011, funct3, funct7))?, comp(funct3, funct7))?;
-            check_eq(mnemonic(word_of(0b0010011, funct3, funct7))?, compi(funct3, funct7))?;
+            check_eq(
+                mnemonic(word_of(0b0110011, funct3, funct7))?,
+                comp(funct3, funct7),
+            )?;
+            check_eq(
+                mnemonic(word_of(0b0010011, funct3, funct7))?,
+                compi(funct3, funct7),
+            )?;
         }
     }
     Ok(())
@@ -87,7 +103,17 @@ fn every_funct3_and_funct7() -> Result<(), Fail> {
 /// Words outside the base: FENCE, ECALL, EBREAK, a CSR instruction, a multiplication, a compressed word, all zeros and all ones.
 #[test]
 fn no_instructions() -> Result<(), Fail> {
-    for word in [0x0ff0_000f, 0x0000_0073, 0x0010_0073, 0x3000_1073, 0x0220_81b3, 0x0000_4501, 0, 0xffff_ffff, 0x2010_5093] {
+    for word in [
+        0x0ff0_000f,
+        0x0000_0073,
+        0x0010_0073,
+        0x3000_1073,
+        0x0220_81b3,
+        0x0000_4501,
+        0,
+        0xffff_ffff,
+        0x2010_5093,
+    ] {
         check_eq(mnemonic(word)?, None)?;
     }
     Ok(())
@@ -111,7 +137,13 @@ fn words_come_back() -> Result<(), Fail> {
 
 /// Whether an instruction with these registers is refused with the number 10.
 fn refuses(mnemonic: Mnemonic, rd: u8, rs1: u8, rs2: u8) -> bool {
-    let i = Instruction { mnemonic, rd, rs1, rs2, immediate: 0 };
+    let i = Instruction {
+        mnemonic,
+        rd,
+        rs1,
+        rs2,
+        immediate: 0,
+    };
     match encode(&i) {
         Ok(_) => false,
         Err(e) => e.number() == 10,

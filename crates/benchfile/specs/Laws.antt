@@ -2,6 +2,7 @@
 use Prim.Native.Nat.{ℕ}
 use mathlib.Core.List.{List, _++_}
 use mathlib.Core.Path.{_≡_}
+use lib.ListN.{take}
 use Rattle.std.specs.declared.result.Result.the-variants.{Ok}
 use Rattle.benchfile.specs.Format.{Contents, judged, fileOf}
 
@@ -15,3 +16,7 @@ abbrev pub Reads-back : List ℕ → ℕ → ℕ → ℕ → Type 0
 Reads-back bytes start base limit =
     (image : List ℕ) (file : Contents) → fileOf (bytes ++ image) ≡ Ok file →
     file ≡ record { start = start; base = base; limit = limit; image = image }
+
+-- the first n bytes of an input get the verdict that the whole of it gets
+abbrev pub Decides : ℕ → Type 0
+Decides n = (bytes : List ℕ) → fileOf (take n bytes) ≡ fileOf bytes

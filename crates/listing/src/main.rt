@@ -1,10 +1,18 @@
+//! Reads a bench file from standard input and lists the words of its image.
+
+mod output;
+
+use benchfile::enough_bytes;
+use output::output;
 use std::io;
 use std::io::Read;
+use std::io::Write;
 
-/// Says how many bytes the standard input has.
 fn main(rt: LibcRuntime) -> io::Result<()> {
     let mut bytes = Vec::new(rt.alloc());
-    rt.stdin().read_to_end(&mut bytes)?;
-    let count = bytes.len();
-    println!(rt, "{count} bytes")
+    rt.stdin()
+        .take(enough_bytes() as u64)
+        .read_to_end(&mut bytes)?;
+    let text = output(rt.alloc(), bytes.as_slice())?;
+    rt.stdout().write_all(text.as_bytes())
 }

@@ -1,0 +1,16 @@
+-- What the program prints for what an input says as a bench file.
+use Prim.Native.Nat.{ℕ}
+use mathlib.Core.Path.{_≡_}
+use mathlib.Core.List.{List}
+use Rattle.std.specs.declared.result.Result.{Result}
+use Rattle.std.specs.declared.result.Result.the-variants.{Ok, Err}
+use Rattle.benchfile.specs.declared.refusals.Refusal.{Refusal}
+use Rattle.benchfile.specs.Format.{Contents}
+use Rattle.benchfile.specs.Refusals.{numberOf}
+use Rattle.report.specs.Lines.{refusedOf}
+use Rattle.report.specs.Listing.{Lists, wordsOf}
+
+-- the listing of the image at its base, or the refusal's number
+abbrev pub Answers : Result Contents Refusal → List ℕ → Type 0
+Answers (Ok file) printed = Lists (file .base) (wordsOf (file .image)) printed
+Answers (Err refusal) printed = printed ≡ refusedOf (numberOf refusal)

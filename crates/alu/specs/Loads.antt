@@ -27,9 +27,9 @@ loadedOf ByteUnsigned word address = byteAt word address
 loadedOf HalfUnsigned word address = halfAt word address
 
 -- the number that the loaded bits stand for: signed in LB, LH and LW, unsigned in LBU and LHU
-abbrev pub numberOf : Load → ℕ → ℕ → ℤ
-numberOf Byte word address = signedOf 8 (byteAt word address)
-numberOf Half word address = signedOf 16 (halfAt word address)
-numberOf Word word address = signedOf 32 word
-numberOf ByteUnsigned word address = pos (byteAt word address)
-numberOf HalfUnsigned word address = pos (halfAt word address)
+abbrev pub numberLoaded : Load → ℕ → ℕ → ℤ
+numberLoaded Byte word address = signedOf 8 (byteAt word address)
+numberLoaded Half word address = signedOf 16 (halfAt word address)
+numberLoaded Word word address = signedOf 32 word
+numberLoaded ByteUnsigned word address = pos (byteAt word address)
+numberLoaded HalfUnsigned word address = pos (halfAt word address)

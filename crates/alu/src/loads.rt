@@ -1,7 +1,7 @@
 use bits::field;
 use bits::sign_extend;
 ghost use mathlib.Core.Path.{_≡_};
-ghost use Rattle.alu.specs.Loads.{loadedOf, numberOf};
+ghost use Rattle.alu.specs.Loads.{loadedOf, numberLoaded};
 ghost use Rattle.bits.specs.Sign.{signedOf};
 
 /// A load of a byte, a half or a word.
@@ -23,7 +23,7 @@ pub enum Load {
 /// Lane 0 of a word is its least significant byte. A half at an odd address is the one that holds that byte, and a word is the whole word.
 pub fn loaded(load: Load, word: u32, address: u32) -> u32
     ensures value { λ r. ⌜ r ≡ loadedOf load word address ⌝ }
-    ensures number { λ r. ⌜ signedOf 32 r ≡ numberOf load word address ⌝ }
+    ensures number { λ r. ⌜ signedOf 32 r ≡ numberLoaded load word address ⌝ }
 {
     let byte = field(word, 8 * (address % 4), 8);
     let half = field(word, 16 * (address / 2 % 2), 16);

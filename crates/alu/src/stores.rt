@@ -22,9 +22,8 @@ pub struct Lanes {
     pub mask: u8,
 }
 
-/// What `store` writes of the register's `value` to the word that holds `address`.
-/// A half at an odd address goes to the half of the word that holds that byte, and a word goes to the whole word.
-pub fn store_lanes(store: Store, value: u32, address: u32) -> Lanes
+// The lanes by the size of the store.
+fn lanes_of(store: Store, value: u32, address: u32) -> Lanes
     ensures value { λ r. ⌜ r .value ≡ valueOf store value address ⌝ }
     ensures mask { λ r. ⌜ r .mask ≡ maskOf store address ⌝ }
     ensures placed { λ r. ⌜ Placed store value address (r .value) (r .mask) ⌝ }
@@ -82,4 +81,15 @@ fn half_lanes(value: u32, address: u32) -> Lanes
             mask: 0b1100,
         },
     }
+}
+
+/// What `store` writes of the register's `value` to the word that holds `address`.
+/// A half at an odd address goes to the half of the word that holds that byte, and a word goes to the whole word.
+pub fn store_lanes(store: Store, value: u32, address: u32) -> Lanes
+    ensures value { λ r. ⌜ r .value ≡ valueOf store value address ⌝ }
+    ensures mask { λ r. ⌜ r .mask ≡ maskOf store address ⌝ }
+    ensures placed { λ r. ⌜ Placed store value address (r .value) (r .mask) ⌝ }
+    ensures back { λ r. ⌜ ReadBack store value address (r .value) ⌝ }
+{
+    lanes_of(store, value, address)
 }

@@ -60,9 +60,9 @@ pub impl fmt::Display for Hex as HexDisplay {
 
 /// The low twenty bits of a number, in hexadecimal digits without leading zeros.
 #[derive(Clone, Copy)]
-pub struct Upper(pub u64);
+pub struct TwentyBits(pub u64);
 
-pub impl fmt::Display for Upper as UpperDisplay {
+pub impl fmt::Display for TwentyBits as TwentyBitsDisplay {
     ghost shown = { λ u. Some (hexadecimal (u .0 % 2 ^ 20)) };
 
     fn fmt<W: fmt::Write>(&self, f: &mut fmt::Formatter<W>) -> fmt::Result {

@@ -1,7 +1,7 @@
 ghost use Rattle.std.specs.declared.option.Option.the-variants.{Some};
 ghost use Rattle.assembly.specs.Assembly.{textOf};
-use super::hex::Upper;
-use super::hex::UpperDisplay;
+use super::hex::TwentyBits;
+use super::hex::TwentyBitsDisplay;
 use super::names::name;
 use isa::Class;
 use isa::Instruction;
@@ -31,7 +31,7 @@ pub impl fmt::Display for Assembly as AssemblyDisplay {
             Class::Br => write!(f, "{name} x{rs1}, x{rs2}, {immediate}"),
             Class::Jal => write!(f, "{name} x{rd}, {immediate}"),
             Class::Lui | Class::Auipc => {
-                let upper = Upper(immediate.unsigned_abs() / 4096);
+                let upper = TwentyBits(immediate.unsigned_abs() / 4096);
                 write!(f, "{name} x{rd}, 0x{upper}")
             }
         }

@@ -40,6 +40,15 @@ fn lay_out(start: u32, base: u32, length: u32, limit: u32) -> [u8; 24]
     ]
 }
 
+// The same, with what the reader makes of it.
+fn judged_header(start: u32, base: u32, length: u32, limit: u32) -> [u8; 24]
+    ensures bytes { λ r. ⌜ r ≡ headerOf start base length limit ⌝ }
+    ensures verdict { λ r. ⌜ Gets-the-verdict r start base length limit ⌝ }
+    ensures reads_back { λ r. ⌜ Reads-back r start base limit ⌝ }
+{
+    lay_out(start, base, length, limit)
+}
+
 /// The 24 bytes that stand before an image of `length` bytes.
 ///
 /// It refuses nothing: `read` judges the numbers, with the image that follows.
@@ -48,5 +57,5 @@ pub fn header(start: u32, base: u32, length: u32, limit: u32) -> [u8; 24]
     ensures verdict { λ r. ⌜ Gets-the-verdict r start base length limit ⌝ }
     ensures reads_back { λ r. ⌜ Reads-back r start base limit ⌝ }
 {
-    lay_out(start, base, length, limit)
+    judged_header(start, base, length, limit)
 }

@@ -7,8 +7,8 @@ ghost use Rattle.isa.specs.Reading.{Reads};
 ghost use Rattle.isa.specs.Refusals.{numberOf};
 ghost use Rattle.isa.specs.Table.{Selects, rowOf};
 ghost use Rattle.isa.specs.declared.mnemonic.Format.the-variants.{Register, Immediate, Store, Branch};
-use super::formats::h_type;
 use super::formats::i_type;
+use super::formats::shift_type;
 use isa::Instruction;
 use isa::Mnemonic;
 use isa::Refusal;
@@ -41,12 +41,12 @@ pub(super) fn comp_immediate(word: u32, funct3: u32, funct7: u32) -> Result<Inst
 {
     match funct3 {
         0b000 => Ok(i_type(Mnemonic::Addi, word)),
-        0b001 if funct7 == 0b0000000 => Ok(h_type(Mnemonic::Slli, word)),
+        0b001 if funct7 == 0b0000000 => Ok(shift_type(Mnemonic::Slli, word)),
         0b010 => Ok(i_type(Mnemonic::Slti, word)),
         0b011 => Ok(i_type(Mnemonic::Sltiu, word)),
         0b100 => Ok(i_type(Mnemonic::Xori, word)),
-        0b101 if funct7 == 0b0000000 => Ok(h_type(Mnemonic::Srli, word)),
-        0b101 if funct7 == 0b0100000 => Ok(h_type(Mnemonic::Srai, word)),
+        0b101 if funct7 == 0b0000000 => Ok(shift_type(Mnemonic::Srli, word)),
+        0b101 if funct7 == 0b0100000 => Ok(shift_type(Mnemonic::Srai, word)),
         0b110 => Ok(i_type(Mnemonic::Ori, word)),
         0b111 => Ok(i_type(Mnemonic::Andi, word)),
         _ => Err(Refusal::NoInstruction),

@@ -49,7 +49,7 @@ pub(super) fn i_type(mnemonic: Mnemonic, word: u32) -> Instruction
 }
 
 // The format I of a shift.
-pub(super) fn h_type(mnemonic: Mnemonic, word: u32) -> Instruction
+pub(super) fn shift_type(mnemonic: Mnemonic, word: u32) -> Instruction
     ensures { λ r. ⌜ r ≡ inFormat Shift mnemonic word ⌝ }
 {
     Instruction {

@@ -7,11 +7,11 @@ ghost use Rattle.isa.specs.Reading.{Reads};
 ghost use Rattle.isa.specs.Refusals.{numberOf};
 ghost use Rattle.encode.specs.Words.{Coded, Only, Written};
 use super::formats::b_type;
-use super::formats::h_type;
 use super::formats::i_type;
 use super::formats::j_type;
 use super::formats::r_type;
 use super::formats::s_type;
+use super::formats::shift_type;
 use super::formats::u_type;
 use isa::Format;
 use isa::Instruction;
@@ -27,7 +27,7 @@ fn encode_row(row: Row, i: &Instruction) -> Result<u32, Refusal>
     match row.format {
         Format::Register => r_type(row, i),
         Format::Immediate => i_type(row, i),
-        Format::Shift => h_type(row, i),
+        Format::Shift => shift_type(row, i),
         Format::Store => s_type(row, i),
         Format::Branch => b_type(row, i),
         Format::Upper => u_type(row, i),

@@ -1,11 +1,10 @@
-ghost use mathlib.Core.Path.{_≡_};
 ghost use Rattle.isa.specs.declared.mnemonic.Format.the-variants.{Register, Immediate, Shift, Store, Branch, Upper, Jump};
 ghost use Rattle.encode.specs.Words.{Coded, Only, Written};
-use super::assembly::assemble;
-use super::assembly::assemble_upper;
 use super::immediates::branch_slots;
 use super::immediates::cut;
 use super::immediates::jump_slot;
+use super::words::assemble;
+use super::words::assemble_upper;
 use bits::field;
 use isa::Instruction;
 use isa::Refusal;
@@ -51,7 +50,7 @@ pub(super) fn i_type(row: Row, i: &Instruction) -> Result<u32, Refusal>
 }
 
 // The format I of a shift.
-pub(super) fn h_type(row: Row, i: &Instruction) -> Result<u32, Refusal>
+pub(super) fn shift_type(row: Row, i: &Instruction) -> Result<u32, Refusal>
     requires { ⌜ Coded row ⌝ }
     ensures only { λ r. ⌜ Only Shift row (now (i .entry)) r ⌝ }
     ensures written { λ r. ⌜ Written Shift row (now (i .entry)) r ⌝ }

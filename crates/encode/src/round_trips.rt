@@ -12,7 +12,7 @@ use isa::Refusal;
 /// Decodes `word` and encodes what it reads as: the same word again.
 /// Refuses 3 if `word` reads as no instruction. It reads as one at most.
 pub fn encode_decoded(word: u32) -> Result<u32, Refusal>
-    ensures same { λ r. ⌜ Cases r (λ v. v ≡ word) (λ e. (numberOf e ≡ 3) × ((i : Instruction) → Reads word i → ⊥)) ⌝ }
+    ensures same { λ r. ⌜ Cases r (λ v. (v ≡ word) × ((i : Instruction) × Reads word i)) (λ e. (numberOf e ≡ 3) × ((i : Instruction) → Reads word i → ⊥)) ⌝ }
     ensures one { λ _. ⌜ OneInstruction word ⌝ }
 {
     let i = decode(word)?;
@@ -22,7 +22,7 @@ pub fn encode_decoded(word: u32) -> Result<u32, Refusal>
 /// Encodes `i` and decodes its word: the same instruction again.
 /// Refuses 10 if `i` does not fit. Exactly one word reads as an instruction that fits, and none as any other.
 pub fn decode_encoded(i: &Instruction) -> Result<Instruction, Refusal>
-    ensures same { λ r. ⌜ Cases r (λ j. j ≡ now (i .entry)) (λ e. (numberOf e ≡ 10) × (Fits (now (i .entry)) → ⊥)) ⌝ }
+    ensures same { λ r. ⌜ Cases r (λ j. (j ≡ now (i .entry)) × Fits (now (i .entry))) (λ e. (numberOf e ≡ 10) × (Fits (now (i .entry)) → ⊥)) ⌝ }
     ensures one { λ _. ⌜ OneWord (now (i .entry)) ⌝ }
 {
     let word = encode(i)?;

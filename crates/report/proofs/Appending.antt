@@ -1,14 +1,14 @@
 -- A listing grows at its end.
-use Prim.Native.Nat.{ℕ, suc, _+_, _*_, _/_, _%_, _^_, _<_, _≤_}
+use Prim.Native.Nat.{ℕ, suc, _+_, _*_, _%_, _^_, _<_, _≤_}
 use native.Mathlib.Omega.{arith}
 use mathlib.Core.Path.{_≡_, refl, sym, ap, subst, _∙_}
 use mathlib.Core.Bool.{Bool, true, false, cond}
-use mathlib.Core.List.{List, [], _∷_, _++_, map, append-nil, append-assoc}
+use mathlib.Core.List.{List, [], _∷_, _++_, append-nil, append-assoc}
 use lib.Chars.{codes}
-use lib.ListN.{length}
+use lib.ListN.{length, getD, take}
+use lib.Seq.{length-take-le, take-all}
 use mir.Val.{boolByte}
-use Rattle.std.proofs.shelf.Counted.{map-counting-more, length-map-counting}
-use Rattle.std.specs.Iters.{counting}
+use Rattle.std.proofs.shelf.Lists.{take-more}
 use Rattle.std.specs.Results.{Cases, isOk}
 use Rattle.std.specs.declared.result.Result.{Result}
 use Rattle.std.specs.declared.result.Result.the-variants.{Ok, Err}
@@ -18,7 +18,7 @@ use Rattle.isa.specs.declared.instruction.Instruction.{Instruction}
 use Rattle.isa.specs.declared.refusal.Refusal.{Refusal}
 use Rattle.assembly.specs.Assembly.{textOf}
 use Rattle.report.specs.Lines.{lineOf, readingOf, summaryOf}
-use Rattle.report.specs.Listing.{Listed, Grows, Lists, wordAt, wordsOf}
+use Rattle.report.specs.Listing.{Listed, Grows, Lists}
 use Rattle.report.specs.Listing.Listed.{nothing, instruction, none}
 
 pub listed-same : {a b : ℕ} {us vs s t : List ℕ} {m n : ℕ} → a ≡ b → us ≡ vs → s ≡ t → m ≡ n → Listed a us s m → Listed b vs t n
@@ -60,26 +60,24 @@ pub byte-le : (b : Bool) → boolByte b ≤ 1
 byte-le true = omega arith
 byte-le false = omega arith
 
--- a turn of the loop: word k of the words that f gives
-pub listed-turn : (f : ℕ → ℕ) (base k address word n one : ℕ) (before after : List ℕ) (b : Bool) → base < 2 ^ 32 → address ≡ (base + 4 * k) % 2 ^ 32 → word ≡ f k → one ≡ boolByte b → Listed base (map f (counting 0 k)) before n → Grows address word before after b → Listed base (map f (counting 0 (k + 1))) after (n + one)
-listed-turn f base k address word n one before after b small a w o h g =
-    listed-same refl (sym (map-counting-more f 0 k k (omega arith))) (sym (g .longer)) (ap (λ (x : ℕ). n + x) (as-byte b ∙ sym o))
+-- a turn of the loop: word k of the words
+pub listed-turn : (words : List ℕ) (base k address word n one : ℕ) (before after : List ℕ) (b : Bool) → base < 2 ^ 32 → k < length words → address ≡ (base + 4 * k) % 2 ^ 32 → word ≡ getD words k 0 → one ≡ boolByte b → Listed base (take k words) before n → Grows address word before after b → Listed base (take (k + 1) words) after (n + one)
+listed-turn words base k address word n one before after b small within a w o h g =
+    listed-same refl (sym (take-more words k 0 within)) (sym (g .longer)) (ap (λ (x : ℕ). n + x) (as-byte b ∙ sym o))
     (
-    listed-more (f k ∷ []) (g .line) (cond b 1 0) small h
+    listed-more (getD words k 0 ∷ []) (g .line) (cond b 1 0) small h
     (
-    listed-same (a ∙ ap (λ (x : ℕ). (base + 4 * x) % 2 ^ 32) (sym (length-map-counting f 0 k))) (ap (λ (x : ℕ). x ∷ []) w) refl refl
+    listed-same (a ∙ ap (λ (x : ℕ). (base + 4 * x) % 2 ^ 32) (sym (length-take-le k words (omega arith)))) (ap (λ (x : ℕ). x ∷ []) w) refl refl
     (g .listed)
     )
     )
 
 -- the lines of all words, and the line of the counts
-pub lists : (base k n : ℕ) (image before after taken line : List ℕ) → k ≡ length image / 4 → Listed base (map (wordAt image) (counting 0 k)) before n → after ≡ before ++ taken → taken ≡ line → line ≡ summaryOf (length image / 4) n → Lists base (wordsOf image) after
-lists base k n image before after taken line e h p q s =
+pub lists : (base k n : ℕ) (words before after taken line : List ℕ) → k ≡ length words → Listed base (take k words) before n → after ≡ before ++ taken → taken ≡ line → line ≡ summaryOf (length words) n → Lists base words after
+lists base k n words before after taken line e h p q s =
     record {
       lines = before;
       instructions = n;
-      listed = listed-same refl (ap (λ (x : ℕ). map (wordAt image) (counting 0 x)) e) refl refl h;
-      whole =
-          p ∙ ap (λ (x : List ℕ). before ++ x) (q ∙ s)
-          ∙ ap (λ (x : ℕ). before ++ summaryOf x n) (sym (length-map-counting (wordAt image) 0 (length image / 4)));
+      listed = listed-same refl (ap (λ (x : ℕ). take x words) e ∙ take-all (length words) words (omega arith)) refl refl h;
+      whole = p ∙ ap (λ (x : List ℕ). before ++ x) (q ∙ s);
     }

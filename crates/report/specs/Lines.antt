@@ -1,12 +1,10 @@
 -- The lines of a listing. Byte 10 ends each.
 use Prim.Native.Nat.{ℕ}
-use mathlib.Core.Path.{_≡_}
 use mathlib.Core.List.{List, _++_}
 use lib.Chars.{codes}
 use Rattle.std.specs.Written.{decimal}
 use Rattle.std.specs.declared.result.Result.{Result}
 use Rattle.std.specs.declared.result.Result.the-variants.{Ok, Err}
-use Rattle.isa.specs.Reading.{Reads}
 use Rattle.isa.specs.declared.instruction.Instruction.{Instruction}
 use Rattle.isa.specs.declared.refusal.Refusal.{Refusal}
 use Rattle.assembly.specs.Assembly.{textOf}
@@ -20,11 +18,6 @@ lineOf address word text = eightDigits address ++ (codes " " ++ (eightDigits wor
 abbrev pub readingOf : Result Instruction Refusal → List ℕ
 readingOf (Ok i) = textOf i
 readingOf (Err e) = codes "no instruction"
-
--- these bytes are the line of the word at the address
-pub record Shows (address word : ℕ) (bytes : List ℕ) : Type 0 where
-  pub instruction : (i : Instruction) → Reads word i → bytes ≡ lineOf address word (textOf i)
-  pub none : ((i : Instruction) → Reads word i → ⊥) → bytes ≡ lineOf address word (codes "no instruction")
 
 -- how many words there are, and how many of them read as an instruction
 abbrev pub summaryOf : ℕ → ℕ → List ℕ

@@ -1,24 +1,14 @@
--- A listing: the lines of an image's words, and then the line of the counts.
-use Prim.Native.Nat.{ℕ, _+_, _*_, _/_, _%_, _^_}
+-- A listing: the lines of words that stand one after another, and then the line of the counts.
+use Prim.Native.Nat.{ℕ, _+_, _%_, _^_}
 use mathlib.Core.Path.{_≡_}
 use mathlib.Core.Bool.{Bool, cond}
-use mathlib.Core.List.{List, [], _∷_, _++_, map}
+use mathlib.Core.List.{List, [], _∷_, _++_}
 use lib.Chars.{codes}
-use lib.ListN.{length, getD}
-use Rattle.std.specs.Iters.{counting}
+use lib.ListN.{length}
 use Rattle.isa.specs.Reading.{Reads}
 use Rattle.isa.specs.declared.instruction.Instruction.{Instruction}
 use Rattle.assembly.specs.Assembly.{textOf}
 use Rattle.report.specs.Lines.{lineOf, summaryOf}
-
--- word k of an image: four bytes, the first of them the lowest
-abbrev pub wordAt : List ℕ → ℕ → ℕ
-wordAt image k =
-    getD image (4 * k) 0 + getD image (4 * k + 1) 0 * 2 ^ 8 + getD image (4 * k + 2) 0 * 2 ^ 16 + getD image (4 * k + 3) 0 * 2 ^ 24
-
--- the words of an image, in order; a tail of one to three bytes is no word
-abbrev pub wordsOf : List ℕ → List ℕ
-wordsOf image = map (wordAt image) (counting 0 (length image / 4))
 
 -- the text is the lines of the words, the first of them at the address, and the count is how many of them read as an instruction
 pub data Listed : ℕ → List ℕ → List ℕ → ℕ → Type 0 where

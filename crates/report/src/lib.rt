@@ -1,9 +1,9 @@
-//! The lines of a listing: the words of an image, each with the instruction that it reads as.
+//! The lines of a listing: words, each with the instruction that it reads as.
 
-mod image;
 mod lines;
+mod whole;
 
-pub use image::listing;
 pub use lines::refused_line;
 pub use lines::summary_line;
 pub use lines::word_line;
+pub use whole::listing;

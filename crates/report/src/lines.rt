@@ -1,19 +1,18 @@
 ghost use mathlib.Core.Path.{_≡_};
 ghost use Rattle.std.specs.Of.String.{string-bytes};
 ghost use Rattle.std.specs.Vec.{made};
-ghost use Rattle.report.specs.Lines.{Shows, lineOf, readingOf, summaryOf, refusedOf};
+ghost use Rattle.report.specs.Lines.{lineOf, readingOf, summaryOf, refusedOf};
 use assembly::Assembly;
 use assembly::AssemblyDisplay;
 use assembly::Hex;
 use assembly::HexDisplay;
-use decode::decode;
 use isa::Instruction;
 use isa::Refusal;
 use std::alloc::AllocError;
 use std::alloc::Global;
 
-// The line of the word at an address by its reading, the decoder's answer.
-pub(super) fn reading_line(
+/// The line of the word at an address, by its reading, the decoder's answer: `00000000 00500093 addi x1, x0, 5`.
+pub fn word_line(
     heap: Global,
     address: u32,
     word: u32,
@@ -30,13 +29,6 @@ pub(super) fn reading_line(
         }
         Err(_) => format!(heap, "{place} {code} no instruction\n"),
     }
-}
-
-/// The line of the word at an address: `00000000 00500093 addi x1, x0, 5`.
-pub fn word_line(heap: Global, address: u32, word: u32) -> Result<String, AllocError>
-    ensures { λ r. ⌜ made r (λ s. Shows address word (string-bytes s)) ⌝ }
-{
-    reading_line(heap, address, word, decode(word))
 }
 
 /// The line of the counts: `5 words, 4 instructions`.

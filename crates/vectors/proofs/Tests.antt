@@ -3,7 +3,7 @@
 use Prim.Native.Nat.{ℕ}
 use mathlib.Core.Bool.{Bool, true, false, not, _&&_}
 use mathlib.Core.List.{List, [], _∷_}
-use mathlib.Core.Path.{_≡_, refl, sym, ap, _∙_}
+use mathlib.Core.Path.{_≡_, refl}
 use native.Mathlib.Omega.{arith}
 use borrow.Author.Needs.{needs}
 use lib.Dec.{eqb}
@@ -20,8 +20,8 @@ use Rattle.isa.specs.declared.mnemonic.Mnemonic.the-variants.{Beq, Bne, Blt, Bg
 use Rattle.isa.specs.declared.mnemonic.Format.{Format}
 use Rattle.isa.specs.declared.mnemonic.Format.the-variants.{Register, Immediate, Shift, Store, Branch, Upper, Jump}
 use Rattle.isa.specs.declared.table.Row.{Row}
-use Rattle.isa.specs.Table.{Selects, Agrees, rowOf}
-use Rattle.isa.specs.Reading.{Reads, rdOf, rs1Of, rs2Of, inFormat}
+use Rattle.isa.specs.Table.{Agrees, rowOf}
+use Rattle.isa.specs.Reading.{rdOf, rs1Of, rs2Of, inFormat}
 use Rattle.isa.specs.Immediates.{immediateOf}
 use Rattle.alu.specs.Operations.{operated}
 use Rattle.alu.specs.Loads.{loadedOf}

@@ -1,6 +1,6 @@
 use Rattle.std.proofs.shelf.Results.{err-from-errBy}
 use Rattle.report.proofs.Appending.{grows}
-use Rattle.report.proofs.image.add_word.Needs as need
+use Rattle.report.proofs.whole.add_word.Needs as need
 
 pub returns-in-Break-push-str : need.returns-in-Break-push-str
 returns-in-Break-push-str c =

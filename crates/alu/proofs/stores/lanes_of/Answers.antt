@@ -2,7 +2,7 @@ use mathlib.Core.Path.{refl}
 use Prim.Native.Nat.{_/_, _%_, _<_}
 use native.Mathlib.Omega.{arith}
 use Rattle.alu.proofs.LaneBytes.{byte-lanes, byte-back, half-lanes, half-back, word-lanes}
-use Rattle.alu.proofs.stores.store_lanes.Needs as need
+use Rattle.alu.proofs.stores.lanes_of.Needs as need
 
 pub returns-in-Byte : need.returns-in-Byte
 returns-in-Byte c =

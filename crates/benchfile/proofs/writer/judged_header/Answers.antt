@@ -1,6 +1,6 @@
 use borrow.Author.Needs.{needs}
 use Rattle.benchfile.proofs.Headers.{gets-the-verdict, reads-back}
-use Rattle.benchfile.proofs.writer.header.Needs as need
+use Rattle.benchfile.proofs.writer.judged_header.Needs as need
 
 pub returns : need.returns
 returns c = record {

@@ -1,9 +1,12 @@
 -- What the reader makes of bytes that begin with a header.
-use Prim.Native.Nat.{ℕ}
+use Prim.Native.Nat.{ℕ, _+_, _%_, _^_, _≤_}
 use mathlib.Core.List.{List, _++_}
 use mathlib.Core.Path.{_≡_}
-use lib.ListN.{take}
+use lib.ListN.{length, take}
+use Rattle.std.specs.Results.{Cases}
+use Rattle.std.specs.declared.result.Result.{Result}
 use Rattle.std.specs.declared.result.Result.the-variants.{Ok}
+use Rattle.benchfile.specs.declared.refusals.Refusal.{Refusal}
 use Rattle.benchfile.specs.Format.{Contents, judged, fileOf}
 
 -- with any image behind them, the bytes get the verdict on these four numbers and that image
@@ -20,3 +23,7 @@ Reads-back bytes start base limit =
 -- the first n bytes of an input get the verdict that the whole of it gets
 abbrev pub Decides : ℕ → Type 0
 Decides n = (bytes : List ℕ) → fileOf (take n bytes) ≡ fileOf bytes
+
+-- an accepted image is whole words, from a word's address on, within the address space
+abbrev pub WholeWords : Result Contents Refusal → Type 0
+WholeWords r = Cases r (λ f. (f .base % 4 ≡ 0) × (length (f .image) % 4 ≡ 0) × (f .base + length (f .image) ≤ 2 ^ 32)) (λ _. Unit {0})

@@ -1,5 +1,6 @@
 ghost use mathlib.Core.Path.{_≡_};
 ghost use Rattle.benchfile.specs.Format.{checked, fieldsOf, fileOf};
+ghost use Rattle.benchfile.specs.Laws.{WholeWords};
 ghost use Rattle.benchfile.specs.Views.{fieldsIn, fieldsRead, fileRead};
 use super::file::BenchFile;
 use super::file::VERSION;
@@ -73,7 +74,8 @@ fn take_apart<'a>(bytes: &'a [u8]) -> Result<Fields<'a>, Refusal>
 
 /// The file that the fields make; refused at the first check that fails.
 fn judge<'a>(fields: Fields<'a>) -> Result<BenchFile<'a>, Refusal>
-    ensures { λ r. ⌜ fileRead r ≡ checked (fieldsIn (fields .entry)) ⌝ }
+    ensures value { λ r. ⌜ fileRead r ≡ checked (fieldsIn (fields .entry)) ⌝ }
+    ensures whole { λ r. ⌜ WholeWords (fileRead r) ⌝ }
 {
     let Fields {
         version,
@@ -115,7 +117,8 @@ fn judge<'a>(fields: Fields<'a>) -> Result<BenchFile<'a>, Refusal>
 /// Bytes that are no bench file are refused, with the first check that fails: the length and the
 /// mark, the version, the rest of the header, the instruction limit.
 pub fn read<'a>(bytes: &'a [u8]) -> Result<BenchFile<'a>, Refusal>
-    ensures { λ r. ⌜ fileRead r ≡ fileOf (now (bytes .entry)) ⌝ }
+    ensures value { λ r. ⌜ fileRead r ≡ fileOf (now (bytes .entry)) ⌝ }
+    ensures whole { λ r. ⌜ WholeWords (fileRead r) ⌝ }
 {
     judge(take_apart(bytes)?)
 }

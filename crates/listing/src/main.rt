@@ -1,6 +1,7 @@
 //! Reads a bench file from standard input and lists the words of its image.
 
 mod output;
+mod words;
 
 use benchfile::enough_bytes;
 use output::output;

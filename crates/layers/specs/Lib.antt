@@ -1,0 +1,3 @@
+pub mod Joined
+pub mod Placed
+pub mod Shield

@@ -9,9 +9,7 @@ use lib.ListN.{length}
 use Rattle.std.proofs.shelf.Counted.{map-counting-more}
 use Rattle.std.proofs.shelf.Ways.{tells}
 use Rattle.std.specs.Iters.{counting}
-use Rattle.std.specs.declared.result.Result.{Result}
 use Rattle.std.specs.declared.result.Result.the-variants.{Ok}
-use Rattle.memory.specs.declared.fault.MemoryFault.{MemoryFault}
 use Rattle.memory.specs.declared.kind.Kind.the-variants.{Open}
 use Rattle.memory.specs.Meaning.{readOf}
 use Rattle.layers.specs.Placed.{placedKinds, placedWords, reaches}

@@ -1,7 +1,7 @@
 -- The lanes of a word that is put together from four bytes.
 -- Assumes nothing.
 use Prim.Native.Nat.{ℕ, _^_, _<_}
-use mathlib.Core.Bool.{Bool, true, false, cond}
+use mathlib.Core.Bool.{true, false, cond}
 use mathlib.Core.Path.{_≡_}
 use native.Mathlib.Omega.{arith}
 use borrow.Author.Count.{below-more, below-none}
@@ -16,17 +16,17 @@ module _ (a b c d : ℕ) (ha : a < 2 ^ 8) (hb : b < 2 ^ 8) (hc : c < 2 ^ 8) (hd 
   below : ofLanes a b c d < 2 ^ 32
   below = omega arith
 
-  first : lane 0 (ofLanes a b c d) ≡ a
-  first = omega arith
+  pub lane-0 : lane 0 (ofLanes a b c d) ≡ a
+  lane-0 = omega arith
 
-  second : lane 1 (ofLanes a b c d) ≡ b
-  second = omega arith
+  pub lane-1 : lane 1 (ofLanes a b c d) ≡ b
+  lane-1 = omega arith
 
-  third : lane 2 (ofLanes a b c d) ≡ c
-  third = omega arith
+  pub lane-2 : lane 2 (ofLanes a b c d) ≡ c
+  lane-2 = omega arith
 
-  fourth : lane 3 (ofLanes a b c d) ≡ d
-  fourth = omega arith
+  pub lane-3 : lane 3 (ofLanes a b c d) ≡ d
+  lane-3 = omega arith
 
 pub each-lane : (mask v w : ℕ) → EachLane mask v w (merged mask v w)
 each-lane mask v w =
@@ -36,5 +36,5 @@ each-lane mask v w =
     let h2 = small mask v w 2 in
     let h3 = small mask v w 3 in (
       below _ _ _ _ h0 h1 h2 h3,
-      below-more P 3 (below-more P 2 (below-more P 1 (below-more P 0 (below-none P) (first _ _ _ _ h0 h1 h2 h3)) (second _ _ _ _ h0 h1 h2 h3)) (third _ _ _ _ h0 h1 h2 h3)) (fourth _ _ _ _ h0 h1 h2 h3),
+      below-more P 3 (below-more P 2 (below-more P 1 (below-more P 0 (below-none P) (lane-0 _ _ _ _ h0 h1 h2 h3)) (lane-1 _ _ _ _ h0 h1 h2 h3)) (lane-2 _ _ _ _ h0 h1 h2 h3)) (lane-3 _ _ _ _ h0 h1 h2 h3),
     )

@@ -5,11 +5,9 @@ use mathlib.Core.Bool.{Bool, cond}
 use Rattle.memory.specs.declared.kind.Kind.{Kind}
 
 pub data Rest : Type 0 where
-  -- nothing is lent to be written
-  nothing : Rest
   -- the lent storage by name, its length, and what of it belongs to no word
   lent : ℕ → ℕ → (ℕ → ℕ) → Rest
-  -- a layer: its two settings, the kinds below it, the words below that do not show, and the rest below
+  -- a layer, or a memory that is lent: its settings or its name, the kinds below it, the words below that do not show, and the rest below
   over : ℕ → ℕ → (ℕ → Kind) → (ℕ → ℕ) → Rest → Rest
   -- two memories, and where the second begins
   beside : ℕ → Rest → Rest → Rest

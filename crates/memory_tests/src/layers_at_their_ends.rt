@@ -15,6 +15,7 @@ use memory::WriteMemory;
 use std::test::*;
 use stores::ReadOnlyImage;
 use stores::ReadOnlyImageReadMemory;
+use stores::ReadOnlyImageWriteMemory;
 use stores::WordBank;
 use stores::WordBankReadMemory;
 use stores::WordBankWriteMemory;
@@ -54,12 +55,26 @@ fn placed_at(base: u32, first: Kind, second: Kind) -> Result<(), Fail> {
         (2, base)
     };
     check_eq(refused(&mut memory, base, 15), number)?;
-    check_eq(refused(&mut memory, base, 16), (9, base))
+    check_eq(refused(&mut memory, base, 16), (9, base))?;
+    let next = base.wrapping_add(1);
+    let number = if second == Kind::Open {
+        (0, 0)
+    } else {
+        (2, next)
+    };
+    check_eq(refused(&mut memory, next, 15), number)?;
+    check_eq(words, [written(first, 10), written(second, 20)])
+}
+
+/// What a word holds after a write of 0x11111111, by its kind.
+fn written(kind: Kind, old: u32) -> u32 {
+    if kind == Kind::Open { 0x1111_1111 } else { old }
 }
 
 #[test]
 fn placed() -> Result<(), Fail> {
     placed_at(1, Kind::Open, Kind::Open)?;
+    placed_at(LAST - 1, Kind::Open, Kind::Open)?;
     placed_at(LAST, Kind::Open, Kind::Absent)?;
     placed_at(BEYOND, Kind::Absent, Kind::Absent)?;
     placed_at(TOP, Kind::Absent, Kind::Absent)?;
@@ -106,17 +121,52 @@ fn shield() -> Result<(), Fail> {
     shielded(BEYOND, TOP, open)
 }
 
-/// A join of two open words and three fixed ones at `at`: how words 0 to 2 look.
+/// A shield at the last words that there can be: over words LAST - 1 and LAST, which are open below it.
+fn shielded_at_the_end(from: u32, to: u32, kinds: [Kind; 2]) -> Result<(), Fail> {
+    let mut words = [1u32, 2, 3];
+    let below = Placed {
+        base: LAST - 1,
+        below: WordBank::new(&mut words),
+    };
+    let memory = Shield { from, to, below };
+    check_eq(seen(&memory, LAST - 1), (kinds[0], 1))?;
+    check_eq(seen(&memory, LAST), (kinds[1], 2))?;
+    check_eq(seen(&memory, BEYOND), (Kind::Absent, 0))
+}
+
+#[test]
+fn shield_at_the_end() -> Result<(), Fail> {
+    shielded_at_the_end(LAST, BEYOND, [Kind::Open, Kind::Fixed])?;
+    shielded_at_the_end(0, LAST, [Kind::Fixed, Kind::Open])?;
+    shielded_at_the_end(LAST, TOP, [Kind::Open, Kind::Fixed])?;
+    shielded_at_the_end(BEYOND, TOP, [Kind::Open, Kind::Open])?;
+    shielded_at_the_end(TOP, LAST, [Kind::Open, Kind::Open])
+}
+
+/// A join of two open words and three fixed ones at `at`: how words 0 to 2 look, and what a write to each answers.
 fn joined_at(at: u32, kinds: [Kind; 3]) -> Result<(), Fail> {
     let mut words = [1u32, 2];
     let bytes = [9u8; 12];
-    let memory = Joined {
+    let mut memory = Joined {
         at,
         left: WordBank::new(&mut words),
         right: ReadOnlyImage::new(&bytes),
     };
     for k in 0..3u32 {
-        check_eq(memory.kind(k), kinds[k as usize])?;
+        let kind = kinds[k as usize];
+        let word = match kind {
+            Kind::Open => k + 1,
+            Kind::Fixed => 0x0909_0909,
+            Kind::Absent => 0,
+        };
+        check_eq(seen(&memory, k), (kind, word))?;
+        let number = match kind {
+            Kind::Open => (0, 0),
+            Kind::Fixed => (5, k),
+            Kind::Absent => (2, k),
+        };
+        check_eq(refused(&mut memory, k, 15), number)?;
+        check_eq(refused(&mut memory, k, 16), (9, k))?;
     }
     check_eq(seen(&memory, LAST), (Kind::Absent, 0))?;
     check_eq(seen(&memory, TOP), (Kind::Absent, 0))

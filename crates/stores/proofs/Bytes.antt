@@ -12,6 +12,7 @@ use lib.ListN.{length, getD, set, length-set}
 use lib.Seq.{getD-set-same, getD-set-other}
 use Rattle.std.proofs.shelf.Bits.{mod-below}
 use Rattle.std.proofs.shelf.Tests.{eqb-true, eqb-false, cases-bool, ltb-true, both-ways}
+use Rattle.memory.proofs.FourLanes.{lane-0, lane-1, lane-2, lane-3}
 use Rattle.memory.specs.declared.kind.Kind.the-variants.{Absent, Open}
 use Rattle.memory.specs.Lanes.{lane, named, ofLanes, taken, merged}
 use Rattle.memory.specs.Meaning.{written, patched}
@@ -33,17 +34,20 @@ module _ (a b c d : ℕ) where
   abbrev word : ℕ
   word = ofLanes (a % 2 ^ 8) (b % 2 ^ 8) (c % 2 ^ 8) (d % 2 ^ 8)
 
+  byte : (x : ℕ) → x % 2 ^ 8 < 2 ^ 8
+  byte x = mod-below x (2 ^ 8) (omega arith)
+
   first : lane 0 word ≡ a % 2 ^ 8
-  first = omega arith
+  first = lane-0 _ _ _ _ (byte a) (byte b) (byte c) (byte d)
 
   second : lane 1 word ≡ b % 2 ^ 8
-  second = omega arith
+  second = lane-1 _ _ _ _ (byte a) (byte b) (byte c) (byte d)
 
   third : lane 2 word ≡ c % 2 ^ 8
-  third = omega arith
+  third = lane-2 _ _ _ _ (byte a) (byte b) (byte c) (byte d)
 
   fourth : lane 3 word ≡ d % 2 ^ 8
-  fourth = omega arith
+  fourth = lane-3 _ _ _ _ (byte a) (byte b) (byte c) (byte d)
 
 same-lanes : {a b c d a′ b′ c′ d′ : ℕ} → a ≡ a′ → b ≡ b′ → c ≡ c′ → d ≡ d′ → ofLanes a b c d ≡ ofLanes a′ b′ c′ d′
 same-lanes p q r s = rw (p, q, r, s)

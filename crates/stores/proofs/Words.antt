@@ -1,29 +1,26 @@
 -- What a write leaves in a row of words.
 -- Assumes nothing.
-use Prim.Native.Nat.{ℕ, _+_, _*_, _/_, _%_, _^_, _<_}
-use mathlib.Core.Bool.{Bool, true, false, cond}
+use Prim.Native.Nat.{ℕ, _%_, _^_, _<_}
+use mathlib.Core.Bool.{true, false, cond}
 use mathlib.Core.List.{List}
 use mathlib.Core.Logic.{_≢_, inl, inr}
 use mathlib.Core.Path.{_≡_, refl, sym, _∙_}
 use native.Mathlib.Nat.{mod-eq-of-lt}
 use native.Mathlib.Omega.{arith}
 use lib.Dec.{eqb, ltb}
-use lib.ListN.{length, getD, set, length-set}
+use lib.ListN.{length, getD, length-set}
 use lib.Seq.{getD-set-same, getD-set-other}
-use Rattle.std.proofs.shelf.Bits.{mod-below}
 use Rattle.std.proofs.shelf.Tests.{eqb-true, eqb-false, cases-bool, ltb-true, both-ways}
 use Rattle.memory.specs.declared.kind.Kind.the-variants.{Absent, Open}
-use Rattle.memory.specs.Lanes.{lane, named, ofLanes, taken, merged}
+use Rattle.memory.proofs.FourLanes.{each-lane}
+use Rattle.memory.specs.Lanes.{lane, taken, merged}
 use Rattle.memory.specs.Meaning.{written, patched}
 use Rattle.stores.specs.Bank.{within, bankKind, bankWord, spare, withWord, wordsAfter}
 
 -- a word that is put together fits, and takes no more than 32 bits of the old one
 module _ (mask v w : ℕ) where
-  taken-below : (i : ℕ) → taken mask v w i < 2 ^ 8
-  taken-below i = elim (named i mask) as (λ b. cond b (lane i v) (lane i w) < 2 ^ 8) [ true ↦ mod-below _ (2 ^ 8) (omega arith) | false ↦ mod-below _ (2 ^ 8) (omega arith) ]
-
   merged-below : merged mask v w < 2 ^ 32
-  merged-below = omega (arith, taken-below 0, taken-below 1, taken-below 2, taken-below 3)
+  merged-below = each-lane mask v w .0
 
   taken-low : (i : ℕ) → lane i (w % 2 ^ 32) ≡ lane i w → taken mask v (w % 2 ^ 32) i ≡ taken mask v w i
   taken-low i e = rw e

@@ -18,7 +18,7 @@ fn holds(bytes: &[u8], k: u32) -> bool
 }
 
 /// The kind of word `k`, where the words that the bytes hold are all of the kind `there`.
-pub fn kind_in(there: Kind, bytes: &[u8], k: u32) -> Kind
+pub(super) fn kind_in(there: Kind, bytes: &[u8], k: u32) -> Kind
     ensures { λ r. ⌜ r ≡ kindIn there (now (bytes .entry)) k ⌝ }
 {
     if holds(bytes, k) { there } else { Kind::Absent }
@@ -47,7 +47,7 @@ fn word_at(bytes: &[u8], k: u32) -> u32
 }
 
 /// Word `k`, of the kind `there` if the bytes hold it. Refuses 2 if they do not.
-pub fn read_word(there: Kind, bytes: &[u8], k: u32) -> Result<u32, MemoryFault>
+pub(super) fn read_word(there: Kind, bytes: &[u8], k: u32) -> Result<u32, MemoryFault>
     ensures { λ r. ⌜ r ≡ readOf k (kindIn there (now (bytes .entry)) k) (wordIn (now (bytes .entry)) k) ⌝ }
 {
     match kind_in(there, bytes, k) {
@@ -70,7 +70,7 @@ fn put_byte(bytes: &mut [u8], i: usize, taken: bool, byte: u8)
 }
 
 /// Puts the lanes of `value` that `mask` names into word `k`, which the bytes hold. No other byte is touched.
-pub fn put_lanes(bytes: &mut [u8], k: u32, value: u32, mask: u8)
+pub(super) fn put_lanes(bytes: &mut [u8], k: u32, value: u32, mask: u8)
     requires { ⌜ whole (length (now bytes)) k ≡ true ⌝ }
     ensures { λ _. ⌜ now (bytes .exit) ≡ withLanes (now (bytes .entry)) k value mask ⌝ }
 {

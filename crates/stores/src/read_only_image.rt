@@ -4,9 +4,8 @@ ghost use Prim.Native.Nat.{ℕ};
 ghost use denote.Ref.{name, now};
 ghost use mathlib.Core.Path.{_≡_};
 ghost use Rattle.memory.specs.Meaning.{writeOf, patched};
-ghost use Rattle.memory.specs.Rest.{nothing};
 ghost use Rattle.memory.specs.declared.kind.Kind.the-variants.{Fixed};
-ghost use Rattle.stores.specs.Layout.{kindIn, wordIn, highIn, fitsIn};
+ghost use Rattle.stores.specs.Layout.{kindIn, wordIn, highIn, fitsIn, lentBytes};
 use super::layout::kind_in;
 use super::layout::read_word;
 use super::refusals::admit;
@@ -52,14 +51,14 @@ pub impl<'a> ReadMemory for ReadOnlyImage<'a> as ReadOnlyImageReadMemory {
 
 /// Every write is refused, and changes nothing.
 pub impl<'a> WriteMemory for ReadOnlyImage<'a> as ReadOnlyImageWriteMemory {
-    ghost rest = { λ _. nothing };
+    ghost rest = { λ s. lentBytes (name (s .bytes)) (now (s .bytes)) };
 
     // The interface's clauses, and at the end that the image is the same.
     fn write(&mut self, k: u32, _value: u32, mask: u8) -> Result<(), MemoryFault>
         ensures answer { λ r. ⌜ r ≡ writeOf k mask (kindIn Fixed (now (now (self .entry) .bytes)) k) ⌝ }
         ensures kept { λ _. ⌜ kindIn Fixed (now (now (self .exit) .bytes)) ≡ kindIn Fixed (now (now (self .entry) .bytes)) ⌝ }
         ensures after { λ _. ⌜ ((j : ℕ) → wordIn (now (now (self .exit) .bytes)) j ≡ patched (kindIn Fixed (now (now (self .entry) .bytes))) (wordIn (now (now (self .entry) .bytes))) k «_value» mask j) ⌝ }
-        ensures rests { λ _. ⌜ nothing ≡ nothing ⌝ }
+        ensures rests { λ _. ⌜ lentBytes (name (now (self .exit) .bytes)) (now (now (self .exit) .bytes)) ≡ lentBytes (name (now (self .entry) .bytes)) (now (now (self .entry) .bytes)) ⌝ }
         ensures same { λ _. ⌜ now (self .exit) ≡ now (self .entry) ⌝ }
     {
         admit((*self).kind(k), k, mask)

@@ -1,5 +1,7 @@
 //! What an instruction does: a word decoded once into its class, the operation and the operands.
 
+#![tactic(auto)]
+
 mod action;
 mod reading;
 

@@ -1,5 +1,7 @@
 //! The arithmetic of RV32I: what its instructions compute, apart from registers and memory.
 
+#![tactic(auto)]
+
 /// The operations on two registers, or on a register and an immediate.
 mod operations;
 /// The comparisons of the branches.

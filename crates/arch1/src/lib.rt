@@ -1,5 +1,7 @@
 //! The multicycle datapath ARCH-1: the core, and what it does in each clock.
 
+#![tactic(auto)]
+
 mod clock;
 mod core;
 mod instruction;

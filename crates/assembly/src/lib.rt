@@ -1,5 +1,7 @@
 //! Numbers and instructions as assemblers write them.
 
+#![tactic(auto)]
+
 mod hex;
 mod names;
 mod text;

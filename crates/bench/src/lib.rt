@@ -1,5 +1,7 @@
 //! The bench: a core over any memory, with a journal and two counters. Its calls are tick, step, run, back and look.
 
+#![tactic(auto)]
+
 mod answers;
 mod back;
 mod bench;

@@ -1,4 +1,7 @@
 //! Bench files: a 24-byte header, then the image that a machine starts from.
+
+#![tactic(auto)]
+
 mod file;
 mod prefix;
 mod reader;

@@ -1,5 +1,7 @@
 //! Bit fields of a 32-bit word, and sign extension.
 
+#![tactic(auto)]
+
 ghost use Rattle.std.specs.Prelude.{◌≡◌, ◌/◌, ◌%◌, ◌^◌, ◌<◌};
 ghost use Rattle.bits.specs.Field.{field};
 ghost use Rattle.bits.specs.Sign.{extended};

@@ -1,5 +1,7 @@
 //! Reads a bench file from standard input and prints the register transfers of its first 64 clocks.
 
+#![tactic(auto)]
+
 mod lines;
 mod output;
 mod show;

@@ -1,5 +1,7 @@
 //! Executed cases of the core.
 
+#![tactic(auto)]
+
 #[cfg(test)]
 mod instructions;
 #[cfg(test)]

@@ -1,5 +1,7 @@
 //! The encoder: the word of an instruction, and that decoder and encoder undo one another.
 
+#![tactic(auto)]
+
 mod encoder;
 mod formats;
 mod immediates;

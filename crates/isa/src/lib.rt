@@ -1,5 +1,7 @@
 //! The instructions of RV32I: their mnemonics and classes, the table of their codes, and what an instruction is.
 
+#![tactic(auto)]
+
 mod instruction;
 mod mnemonic;
 mod refusal;

@@ -1,5 +1,7 @@
 //! Executed cases of decoder and encoder.
 
+#![tactic(auto)]
+
 #[cfg(test)]
 mod codes;
 #[cfg(test)]

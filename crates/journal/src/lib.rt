@@ -1,5 +1,7 @@
 //! A record of the newest instructions that retired, each with what takes it back.
 
+#![tactic(auto)]
+
 mod entry;
 mod ring;
 

@@ -1,5 +1,7 @@
 //! Layers over memories: one that moves the words, one that forbids writes, and one that puts two memories side by side.
 
+#![tactic(auto)]
+
 mod joined;
 mod placed;
 mod shield;

@@ -1,5 +1,7 @@
 //! Reads a bench file from standard input and lists the words of its image.
 
+#![tactic(auto)]
+
 mod output;
 mod words;
 

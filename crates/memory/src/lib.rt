@@ -1,5 +1,7 @@
 //! Memories with byte lanes: what a word of a memory is, and the interfaces to read and to write one.
 
+#![tactic(auto)]
+
 mod borrowed;
 mod fault;
 mod interfaces;

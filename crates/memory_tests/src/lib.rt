@@ -1,5 +1,7 @@
 //! Executed cases of stores and layers.
 
+#![tactic(auto)]
+
 #[cfg(test)]
 mod layers_at_their_ends;
 #[cfg(test)]

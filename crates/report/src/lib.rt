@@ -1,5 +1,7 @@
 //! The lines of a listing: words, each with the instruction that it reads as.
 
+#![tactic(auto)]
+
 mod lines;
 mod whole;
 

@@ -1,5 +1,7 @@
 //! Lists of calls on a new bench, with the law over all of them.
 
+#![tactic(auto)]
+
 mod call;
 mod playing;
 mod stacked;

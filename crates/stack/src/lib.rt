@@ -1,5 +1,7 @@
 //! Two stores under a stack of layers, written and read through it.
 
+#![tactic(auto)]
+
 mod lent;
 mod owned;
 

@@ -1,5 +1,7 @@
 //! Memories over lent storage: bytes that are written, bytes that are only read, and whole words.
 
+#![tactic(auto)]
+
 mod byte_image;
 mod layout;
 mod lent;

@@ -1,5 +1,7 @@
 //! Known values: worked examples of the instruction set, proved against its definitions.
 
+#![tactic(auto)]
+
 ghost use Rattle.std.specs.Prelude.{◌≡◌, length};
 ghost use Rattle.vectors.specs.Examples.{Every};
 ghost use Rattle.vectors.specs.Values.{table};

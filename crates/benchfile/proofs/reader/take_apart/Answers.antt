@@ -4,8 +4,8 @@ use Rattle.std.proofs.lemmas.Bool.Decides.{nat_tests}
 use Rattle.benchfile.proofs.reader.take_apart.Goals as goal
 
 -- what the pattern does not match is too short or has another mark
-pub returns-in-default : goal.returns-in-default
-returns-in-default c = grind (arith, nat_tests)
+pub returns-in_default : goal.returns-in_default
+returns-in_default c = grind (arith, nat_tests)
 
 -- the pattern's rest is all from byte 24 on
 pub returns : goal.returns

@@ -4,11 +4,11 @@ use Rattle.benchfile.proofs.writer.judged_header.Goals as goal
 
 pub returns : goal.returns
 returns c = record {
-  bytes = c.lay-out.ensures;
-  verdict = simp c.lay-out.ensures
+  bytes = c.lay_out.ensures;
+  verdict = simp c.lay_out.ensures
       (gets_the_verdict c.args.start c.args.base c.args.length c.args.limit
       (search rules) (search rules) (search rules) (search rules));
-  reads_back_lem = simp c.lay-out.ensures
+  reads_back = simp c.lay_out.ensures
       (reads_back_lem c.args.start c.args.base c.args.length c.args.limit
       (search rules) (search rules) (search rules) (search rules));
 }

@@ -8,5 +8,5 @@ use Rattle.decode.proofs.formats.signed.Goals as goal
 pub returns : goal.returns
 returns c =
     let whole : field 0 c.args.width c.args.x ≡ c.args.x = rw div-one (mod-eq_of_lt c.requires.1.1) in
-    let here : c.cast-signed.result ≡ signed_of c.args.width c.args.x = c.cast-signed.ensures ∙ ap (to_z w32) (c.sign-extend.ensures ∙ ap (extended c.args.width) whole) ∙ keeps_number c.args.width c.args.x c.requires.0 c.requires.1.0 c.requires.1.1 in
+    let here : c.cast_signed.result ≡ signed_of c.args.width c.args.x = c.cast_signed.ensures ∙ ap (to_z w32) (c.sign_extend.ensures ∙ ap (extended c.args.width) whole) ∙ keeps_number c.args.width c.args.x c.requires.0 c.requires.1.0 c.requires.1.1 in
     omega (arith, ints) ∙ here

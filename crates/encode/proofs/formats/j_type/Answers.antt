@@ -11,19 +11,19 @@ pub returns-in-Some : goal.returns-in-Some
 returns-in-Some c =
     let i = c.args.i.now in
     let x = c.in-Some.x in
-    let w = c.assemble-upper.result in
-    let made = c.assemble-upper.ensures in
+    let w = c.assemble_upper.result in
+    let made = c.assemble_upper.ensures in
     let fits = c.in-Some.ensures.0 in
     let f : SFits w64 i.immediate = search rules in
     let value : signed_of 21 x ≡ i.immediate = simp to_z-of_z at c.in-Some.ensures.1 in
-    let back = c.jump-slot.ensures.back w made.upper in
+    let back = c.jump_slot.ensures.back w made.upper in
     record {
       only = λ v k.
-          let there = c.jump-slot.ensures.there v (same_offset Jump 21 imm_j (search rules) below_j (λ _. refl) i v x k.operands fits value) in
-          ap Ok (same_upper w v c.assemble-upper.type-inv k.word (made.opcode ∙ sym k.codes) (made.rd ∙ ap (λ (j : Instruction). j.rd) k.operands) (made.upper ∙ sym there));
+          let there = c.jump_slot.ensures.there v (same_offset Jump 21 imm_j (search rules) below_j (λ _. refl) i v x k.operands fits value) in
+          ap Ok (same_upper w v c.assemble_upper.type_inv k.word (made.opcode ∙ sym k.codes) (made.rd ∙ ap (λ (j : Instruction). j.rd) k.operands) (made.upper ∙ sym there));
       written = (
         record {
-          word = c.assemble-upper.type-inv;
+          word = c.assemble_upper.type_inv;
           codes = made.opcode;
           operands = same_operands Jump i w (sym made.rd) (search rules) (search rules) (sym (ap (signed_of 21) back ∙ value));
         },

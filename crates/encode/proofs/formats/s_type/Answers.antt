@@ -22,14 +22,14 @@ returns-in-Some c =
     record {
       only = λ v k.
           let there = store_there v x (same_offset Store 12 imm_s (search rules) below_s (λ _. refl) i v x k.operands fits value) in
-          ap Ok (same_word w v c.assemble.type-inv k.word
+          ap Ok (same_word w v c.assemble.type_inv k.word
           (made.opcode ∙ sym k.codes.0) (low ∙ sym there.0) (made.funct3 ∙ sym k.codes.1)
           (made.rs1 ∙ ap (λ (j : Instruction). j.rs1) k.operands)
           (made.rs2 ∙ c.from.ensures ∙ ap (λ (j : Instruction). j.rs2) k.operands)
           (high ∙ sym there.1));
       written = (
         record {
-          word = c.assemble.type-inv;
+          word = c.assemble.type_inv;
           codes = (made.opcode, made.funct3);
           operands = same_operands Store i w (search rules) (sym made.rs1) (sym (made.rs2 ∙ c.from.ensures)) (sym (ap (signed_of 12) back ∙ value));
         },

@@ -8,4 +8,4 @@ pub returns : goal.returns
 returns c =
     let m = c.args.memory.now in
     let e = c.read.ensures ∙ shown m.base c.args.k m.below.bytes.now c.requires.0 c.requires.1 in
-    c.unwrap-or.ensures ∙ ap (λ (r : Result ℕ MemoryFault). result_unwrap_or r 0) e
+    c.unwrap_or.ensures ∙ ap (λ (r : Result ℕ MemoryFault). result_unwrap_or r 0) e

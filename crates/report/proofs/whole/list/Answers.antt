@@ -8,13 +8,13 @@ loop-word-init c = (omega arith, omega arith, listed_same refl refl (sym c.new-t
 
 pub loop-word-preserved : goal.loop-word-preserved
 loop-word-preserved c = (
-  omega (arith, c.from.ensures, byte_le c.in-ok-add-word.field-0),
+  omega (arith, c.from.ensures, byte_le c.in_ok-add_word.field-0),
   omega arith,
-  listed_turn c.args.words.now _ _ _ _ _ _ _ _ c.in-ok-add-word.field-0 (omega arith) (omega arith) c.loop-word.invariant.1 refl c.from.ensures c.loop-word.invariant.2
-      c.in-ok-add-word.ensures,
+  listed_turn c.args.words.now _ _ _ _ _ _ _ _ c.in_ok-add_word.field-0 (omega arith) (omega arith) c.loop-word.invariant.1 refl c.from.ensures c.loop-word.invariant.2
+      c.in_ok-add_word.ensures,
 )
 
 pub returns : goal.returns
 returns c =
-    lists _ c.loop-word.word-index _ c.args.words.now _ _ _ _ (omega arith) c.loop-word.invariant.2 c.in-ok-push-str.ensures.bytes c.as-str.ensures.value
-    c.in-ok-summary.ensures
+    lists _ c.loop-word.word-index _ c.args.words.now _ _ _ _ (omega arith) c.loop-word.invariant.2 c.in_ok-push_str.ensures.bytes c.as_str.ensures.value
+    c.in_ok-summary.ensures

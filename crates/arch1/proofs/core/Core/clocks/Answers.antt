@@ -6,8 +6,8 @@ use Rattle.arch1.specs.Refinement.{rig, answer_for, rig_for}
 use Rattle.arch1.specs.declared.phase.CoreFault.{CoreFault}
 use Rattle.arch1.proofs.core.Core.clocks.Goals as goal
 
-pub returns-in-err-tick : goal.returns-in-err-tick
-returns-in-err-tick g c =
+pub returns-in_err-tick : goal.returns-in_err-tick
+returns-in_err-tick g c =
     let m = g.M.ReadMemory in
     let K = m.kinds c.args.memory.now in
     let s = rig (datapath_of c.loop-done.self) (m.words c.loop-done.memory) in
@@ -15,8 +15,8 @@ returns-in-err-tick g c =
     let inv = c.loop-done.invariant in
     let e = c.tick.ensures in
     let one = by_contract K (m.kinds c.loop-done.memory) inv.2 s t c.tick.result e.answer e.core e.words in
-    let y = err_from_is_err_and c.from-residual.result c.from-residual.ensures.1 in
-    let all = refused_clock K s t c.loop-done.done (omega arith) one.1 c.in-err-tick.field-0.0 (one.0 ∙ c.in-err-tick.was) in
+    let y = err_from_is_err_and c.from_residual.result c.from_residual.ensures.1 in
+    let all = refused_clock K s t c.loop-done.done (omega arith) one.1 c.in_err-tick.field-0.0 (one.0 ∙ c.in_err-tick.was) in
     let told = y.1 ∙ ap (λ (f : CoreFault). Err f) y.2 ∙ all.0 ∙ inv.0 in
     let came = all.1 ∙ inv.1 in
     record { answer = told; state = came; kinds = e.kinds ∙ inv.2; rest = e.rest ∙ inv.3; law = instruction_refines _ _ _ _ _ told came }
@@ -30,7 +30,7 @@ returns-then-branch g c =
     let inv = c.loop-done.invariant in
     let e = c.tick.ensures in
     let one = by_contract K (m.kinds c.loop-done.memory) inv.2 s t c.tick.result e.answer e.core e.words in
-    let all = last_clock K s t c.loop-done.done (omega arith) one.1 c.in-ok-tick.field-0 (one.0 ∙ c.in-ok-tick.was) c.if-branch.true in
+    let all = last_clock K s t c.loop-done.done (omega arith) one.1 c.in_ok-tick.field-0 (one.0 ∙ c.in_ok-tick.was) c.if-branch.true in
     let told = all.0 ∙ inv.0 in
     let came = all.1 ∙ inv.1 in
     record { answer = told; state = came; kinds = e.kinds ∙ inv.2; rest = e.rest ∙ inv.3; law = instruction_refines _ _ _ _ _ told came }
@@ -44,7 +44,7 @@ loop-done-preserved g c =
     let inv = c.loop-done.invariant in
     let e = c.tick.ensures in
     let one = by_contract K (m.kinds c.loop-done.memory) inv.2 s t c.tick.result e.answer e.core e.words in
-    let all = next_clock K s t c.loop-done.done (omega arith) one.1 c.in-ok-tick.field-0 (one.0 ∙ c.in-ok-tick.was) c.if-branch.false in
+    let all = next_clock K s t c.loop-done.done (omega arith) one.1 c.in_ok-tick.field-0 (one.0 ∙ c.in_ok-tick.was) c.if-branch.false in
     (all.0 ∙ inv.0, all.1 ∙ inv.1, e.kinds ∙ inv.2, e.rest ∙ inv.3)
 
 pub returns : goal.returns

@@ -6,11 +6,11 @@ use Rattle.bench.specs.Calls.{tick_answer}
 use Rattle.bench.specs.State.{state_of}
 use Rattle.bench.proofs.bench.Bench.clock.Goals as goal
 
-pub returns-in-err-advanced : goal.returns-in-err-advanced
-returns-in-err-advanced g c =
+pub returns-in_err-advanced : goal.returns-in_err-advanced
+returns-in_err-advanced g c =
     let m = g.M.ReadMemory in
     let s = state_of m.kinds m.words c.args.self.now in
     let e = c.advance.ensures in
-    let y = err_from_is_err_and c.from-residual.result c.from-residual.ensures.1 in
-    let told = clock_refused s (tick_answer s) c.in-err-advanced.field-0.0 (sym e.answer ∙ c.in-err-advanced.was) in
+    let y = err_from_is_err_and c.from_residual.result c.from_residual.ensures.1 in
+    let told = clock_refused s (tick_answer s) c.in_err-advanced.field-0.0 (sym e.answer ∙ c.in_err-advanced.was) in
     record { answer = y.1 ∙ ap (λ (f : CoreFault). Err f) y.2 ∙ sym told; state = e.state; rest = e.rest }

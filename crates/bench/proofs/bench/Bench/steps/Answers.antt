@@ -6,16 +6,16 @@ use Rattle.bench.specs.State.{state_of}
 use Rattle.bench.specs.declared.answers.RunFault.{RunFault}
 use Rattle.bench.proofs.bench.Bench.steps.Goals as goal
 
-pub returns-in-err-after-steps : goal.returns-in-err-after-steps
-returns-in-err-after-steps g c =
+pub returns-in_err-after_steps : goal.returns-in_err-after_steps
+returns-in_err-after_steps g c =
     let m = g.M.ReadMemory in
     let s = state_of m.kinds m.words c.loop-done.self in
     let t = state_of m.kinds m.words c.finish.new.self in
     let done = c.loop-done.done in
     let inv = c.loop-done.invariant in
     let e = c.finish.ensures in
-    let told = after_refused done c.finish.result c.in-err-after-steps.field-0.0 (sym c.after-steps.ensures ∙ c.in-err-after-steps.was) in
-    let y = err_from_is_err_and c.from-residual.result c.from-residual.ensures.1 in
+    let told = after_refused done c.finish.result c.in_err-after_steps.field-0.0 (sym c.after_steps.ensures ∙ c.in_err-after_steps.was) in
+    let y = err_from_is_err_and c.from_residual.result c.from_residual.ensures.1 in
     let all = refused_step s t done c.args.n (omega arith) e.state told.0 (sym e.answer ∙ told.1) in
     record { answer = y.1 ∙ ap (λ (f : RunFault). Err f) (y.2 ∙ told.2) ∙ all.0 ∙ inv.0; state = all.1 ∙ inv.1; rest = e.rest ∙ inv.2 }
 
@@ -27,8 +27,8 @@ loop-done-preserved g c =
     let done = c.loop-done.done in
     let inv = c.loop-done.invariant in
     let e = c.finish.ensures in
-    let x = c.in-ok-after-steps.field-0 in
-    let told = after_done done c.finish.result x (sym c.after-steps.ensures ∙ c.in-ok-after-steps.was) in
+    let x = c.in_ok-after_steps.field-0 in
+    let told = after_done done c.finish.result x (sym c.after_steps.ensures ∙ c.in_ok-after_steps.was) in
     let all = next_step s t done c.args.n (omega arith) e.state x (sym e.answer ∙ told) in
     (all.0 ∙ inv.0, all.1 ∙ inv.1, e.rest ∙ inv.2)
 

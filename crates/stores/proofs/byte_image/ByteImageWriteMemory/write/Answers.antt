@@ -11,7 +11,7 @@ pub returns : goal.returns
 returns c =
     let a = c.args in
     let bs = a.self.now.bytes.now in
-    let e = c.write-word.ensures in
+    let e = c.write_word.ensures in
     record {
       answer = e.answer;
       kept = simp e.exact (fun_ext (λ j. simp (after_length bs a.k a.value a.mask)));

@@ -10,7 +10,7 @@ pub returns : goal.returns
 returns c =
     let a = c.args in
     let ws = a.self.now.bank.now in
-    let e = c.write-word.ensures in
+    let e = c.write_word.ensures in
     record {
       answer = e.answer;
       kept = simp e.exact (fun_ext (λ j. simp (after_length ws a.k a.value a.mask)));

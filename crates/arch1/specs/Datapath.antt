@@ -1,7 +1,7 @@
 -- The registers of the datapath.
 use Rattle.std.specs.Prelude.{ℕ, Bool}
 use Rattle.registers.specs.declared.file.RegisterFile.{RegisterFile}
-use Rattle.arch1.specs.declared.core.Core.{Core}
+use Rattle.arch1.specs.declared.datapath.Core.{Core}
 use Rattle.arch1.specs.declared.phase.Phase.{Phase}
 
 pub record Datapath : Type 0 where

@@ -4,7 +4,7 @@ ghost use Rattle.arch1.specs.Datapath.{datapath_of};
 ghost use Rattle.arch1.specs.Refinement.{Keeps};
 ghost use Rattle.arch1.specs.Transfers.{transfer};
 
-use super::core::Core;
+use super::datapath::Core;
 use super::phase::{CoreFault, Phase, Ticked};
 use actions::action_of;
 use memory::WriteMemory;

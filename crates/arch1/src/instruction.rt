@@ -3,7 +3,7 @@ ghost use Rattle.arch1.specs.Datapath.{datapath_of};
 ghost use Rattle.arch1.specs.Refinement.{rig, answer_for, rig_for, start_of, Refines};
 ghost use Rattle.arch1.specs.declared.phase.Phase.TheVariants.{T0};
 
-use super::core::Core;
+use super::datapath::Core;
 use super::phase::CoreFault;
 use memory::WriteMemory;
 

@@ -3,10 +3,10 @@
 #![tactic(auto)]
 
 mod clock;
-mod core;
+mod datapath;
 mod instruction;
 mod phase;
 mod transfers;
 
-pub use core::Core;
+pub use datapath::Core;
 pub use phase::{CoreFault, Phase, Ticked};

@@ -5,7 +5,7 @@ ghost use Rattle.arch1.specs.Datapath.{datapath_of};
 ghost use Rattle.arch1.specs.Transfers.{transfer, refuses, access_of, in_phase};
 ghost use Rattle.arch1.specs.declared.phase.Phase.TheVariants as phase;
 
-use super::core::Core;
+use super::datapath::Core;
 use super::phase::{Phase, Ticked};
 use actions::{Action, action_of};
 use alu::{Load, Store, compare, loaded, operate, store_lanes};

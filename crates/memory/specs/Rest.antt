@@ -6,6 +6,8 @@ use Rattle.memory.specs.declared.kind.Kind.{Kind}
 pub data Rest : Type 0 where
   -- the lent storage by name, its length, and what of it belongs to no word
   lent : ℕ → ℕ → (ℕ → ℕ) → Rest
+  -- storage that is lent to be read only, by the place where it is (a block, and how far into it), its length, and what of it belongs to no word
+  shared : ℕ × ℕ → ℕ → (ℕ → ℕ) → Rest
   -- a layer, or a memory that is lent: its settings or its name, the kinds below it, the words below that do not show, and the rest below
   over : ℕ → ℕ → (ℕ → Kind) → (ℕ → ℕ) → Rest → Rest
   -- two memories, and where the second begins

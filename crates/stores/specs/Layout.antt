@@ -4,7 +4,7 @@ use Rattle.std.proofs.Common.{arith, le-ltb}
 use Rattle.memory.specs.declared.kind.Kind.{Kind}
 use Rattle.memory.specs.declared.kind.Kind.TheVariants.{Absent}
 use Rattle.memory.specs.Lanes.{lane, named, of_lanes}
-use Rattle.memory.specs.Rest.{Rest, lent, hidden}
+use Rattle.memory.specs.Rest.{Rest, lent, shared, hidden}
 
 -- whether n bytes hold all four of word k, and k is a word number
 abbrev pub whole : ℕ → ℕ → Bool
@@ -29,6 +29,10 @@ outside bs = hidden (λ i. whole (length bs) (i / 4)) (λ i. slice_index bs i)
 -- what no write to lent bytes changes: whose they are, how many, and those that belong to no word
 abbrev pub lent_bytes : ℕ → List ℕ → Rest
 lent_bytes name bs = lent name (length bs) (outside bs)
+
+-- the same of bytes that are lent to be read only, which have no such name and are known by where they are
+abbrev pub shared_bytes : ℕ × ℕ → List ℕ → Rest
+shared_bytes place bs = shared place (length bs) (outside bs)
 
 -- the bytes with lane i of word k taken from v, if the mask names it
 abbrev pub with_lane : List ℕ → ℕ → ℕ → ℕ → ℕ → List ℕ

@@ -3,7 +3,7 @@
 ghost use Rattle.std.specs.Prelude.{◌≡◌, ℕ};
 ghost use Rattle.memory.specs.Meaning.{write_of, patched};
 ghost use Rattle.memory.specs.declared.kind.Kind.TheVariants.{Fixed};
-ghost use Rattle.stores.specs.Layout.{kind_in_layout, word_in, high_in, fits_in, lent_bytes};
+ghost use Rattle.stores.specs.Layout.{kind_in_layout, word_in, high_in, fits_in, shared_bytes};
 
 use super::layout::{kind_in, read_word};
 use super::refusals::admit;
@@ -19,7 +19,7 @@ impl<'a> ReadOnlyImage<'a> {
     /// A memory over these bytes.
     pub fn new(bytes: &'a [u8]) -> ReadOnlyImage<'a>
         ensures value { result.bytes.now ≡ bytes.now }
-        ensures named { result.bytes.ghost_name ≡ bytes.entry.ghost_name }
+        ensures named { result.bytes.ref_ptr ≡ bytes.entry.ref_ptr }
     {
         ReadOnlyImage { bytes }
     }
@@ -46,14 +46,14 @@ impl<'a> ReadMemory for ReadOnlyImage<'a> {
 
 /// Every write is refused, and changes nothing.
 impl<'a> WriteMemory for ReadOnlyImage<'a> {
-    ghost rest = { λ s. lent_bytes s.bytes.ghost_name s.bytes.now };
+    ghost rest = { λ s. shared_bytes s.bytes.ref_ptr s.bytes.now };
 
     // The interface's clauses, and at the end that the image is the same.
     fn write(&mut self, k: u32, _value: u32, mask: u8) -> Result<(), MemoryFault>
         ensures answer { result ≡ write_of k mask (kind_in_layout Fixed self.old.bytes.now k) }
         ensures kept { kind_in_layout Fixed self.new.bytes.now ≡ kind_in_layout Fixed self.old.bytes.now }
         ensures after { (j : ℕ) → word_in self.new.bytes.now j ≡ patched (kind_in_layout Fixed self.old.bytes.now) (word_in self.old.bytes.now) k _value mask j }
-        ensures rests { lent_bytes self.new.bytes.ghost_name self.new.bytes.now ≡ lent_bytes self.old.bytes.ghost_name self.old.bytes.now }
+        ensures rests { shared_bytes self.new.bytes.ref_ptr self.new.bytes.now ≡ shared_bytes self.old.bytes.ref_ptr self.old.bytes.now }
         ensures same { self.new ≡ self.old }
     {
         admit((*self).kind(k), k, mask)

@@ -8,5 +8,5 @@ returns-in_err-push_str c =
 
 pub returns : goal.returns
 returns c =
-    grows _ _ _ _ _ _ c.decode_reading.result c.is_ok.result c.decode_reading.ensures.reads c.is_ok.ensures.value c.in_ok-push_str.ensures.bytes
+    grows _ _ _ _ _ _ c.decode-reading.result c.is_ok.result c.decode-reading.ensures.reads c.is_ok.ensures.value c.in_ok-push_str.ensures.bytes
     c.as_str.ensures.value c.in_ok-line.ensures

@@ -16,6 +16,6 @@ returns c =
       answer = e.answer;
       kept = simp e.exact (fun_ext (λ j. simp (after_length bs a.k a.value a.mask)));
       after = subst⁻¹ (λ (xs : List ℕ). (j : ℕ) → word_in xs j ≡ patched (kind_in_layout Open bs) (word_in bs) a.k a.value a.mask j) e.exact (after_words bs a.k a.value a.mask);
-      rests = simp e.exact (ap₂ (lent a.self.now.bytes.name) (after_length bs a.k a.value a.mask) (fun_ext (after_outside bs a.k a.value a.mask)));
+      rests = simp e.exact (ap₂ (lent a.self.now.bytes.ghost_name) (after_length bs a.k a.value a.mask) (fun_ext (after_outside bs a.k a.value a.mask)));
       exact = e.exact;
     }

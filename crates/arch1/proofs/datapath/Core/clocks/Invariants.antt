@@ -1,7 +1,7 @@
 use Rattle.std.proofs.Common.{◌≡◌, ◌-◌}
 use Rattle.arch1.specs.Datapath.{datapath_of}
 use Rattle.arch1.specs.Refinement.{rig, answer_for, rig_for}
-use Rattle.arch1.proofs.core.Core.clocks.Given as goal
+use Rattle.arch1.proofs.datapath.Core.clocks.Given as goal
 
 -- what is left of four clocks comes to what four came to from the start
 abbrev pub invariant-loop-done : goal.invariant-loop-done

@@ -4,7 +4,7 @@ use Rattle.arch1.proofs.Instructions.{by_contract, next_clock, last_clock, refus
 use Rattle.arch1.specs.Datapath.{datapath_of}
 use Rattle.arch1.specs.Refinement.{rig, answer_for, rig_for}
 use Rattle.arch1.specs.declared.phase.CoreFault.{CoreFault}
-use Rattle.arch1.proofs.core.Core.clocks.Goals as goal
+use Rattle.arch1.proofs.datapath.Core.clocks.Goals as goal
 
 pub returns-in_err-tick : goal.returns-in_err-tick
 returns-in_err-tick g c =

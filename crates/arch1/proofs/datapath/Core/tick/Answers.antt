@@ -1,5 +1,5 @@
 use Rattle.arch1.proofs.Clocks.{clock_keeps}
-use Rattle.arch1.proofs.core.Core.tick.Goals as goal
+use Rattle.arch1.proofs.datapath.Core.tick.Goals as goal
 
 pub returns : goal.returns
 returns g c =

@@ -35,10 +35,10 @@ loop-clocks-preserved g c =
     let bit = counted c.from-instructions.result x.retired c.from-instructions.ensures in (
       omega (arith, bit, at_most_one x.retired),
       ap (λ (n : ℕ). after ++ shown_from K (most - (clocks + 1)) limit (clocks + 1) (instructions + n) t) bit
-          ∙ grown (string_bytes c.loop-clocks.text) after c.as_str.result.now (string_bytes c.in_ok-line.line) (clock_of c.loop-clocks.core.phase (datapath_of c.tick.new.self))
+          ∙ grown (string_bytes c.loop-clocks.text) after c.as_str.result.now (string_bytes c.in_ok-line-in-Ok.line) (clock_of c.loop-clocks.core.phase (datapath_of c.tick.new.self))
           (shown_from K (most - (clocks + 1)) limit (clocks + 1) (instructions + bit_of x.retired) t) (shown_from K (most - clocks) limit clocks instructions s)
           (shown K most limit (rig (datapath_of c.args.core.now) (m.words c.args.memory.now)))
-          c.in_ok-push_str.ensures.bytes c.as_str.ensures.value c.in_ok-line.ensures next inv.1,
+          c.in_ok-push_str-in-Ok.ensures.bytes c.as_str.ensures.value c.in_ok-line-in-Ok.ensures next inv.1,
       e.kinds ∙ inv.2,
     )
 
@@ -54,9 +54,9 @@ returns-in-Err g c =
     let e = c.tick.ensures in
     let one = by_contract K (m.kinds c.loop-clocks.memory) inv.2 s t c.tick.result e.answer e.core e.words in
     let last = refused_clock K c.args.most c.args.limit clocks instructions s c.loop-clocks-test.true c.if-instructions-limit.true c.in-Err.fault (one.0 ∙ c.in-Err.is) in
-    ended (string_bytes c.loop-clocks.text) (string_bytes c.push_str-in-Err.new.self) c.as_str-in-Err.result.now (string_bytes c.in_ok-line-2.line) (fault_of c.in-Err.fault clocks instructions)
+    ended (string_bytes c.loop-clocks.text) (string_bytes c.push_str-in-Err.new.self) c.as_str-in-Err.result.now (string_bytes c.in_ok-line-in-Err.line) (fault_of c.in-Err.fault clocks instructions)
     (shown_from K (c.args.most - clocks) c.args.limit clocks instructions s) (shown K c.args.most c.args.limit (rig (datapath_of c.args.core.now) (m.words c.args.memory.now)))
-    c.in_ok-push_str-2.ensures.bytes c.as_str-in-Err.ensures.value c.in_ok-line-2.ensures last inv.1
+    c.in_ok-push_str-in-Err.ensures.bytes c.as_str-in-Err.ensures.value c.in_ok-line-in-Err.ensures last inv.1
 
 pub returns : goal.returns
 returns g c =
@@ -72,6 +72,6 @@ returns g c =
       | then-loop-clocks-test+else-instructions-limit w ↦ no_instruction_lem K most limit clocks instructions s w.if-instructions-limit.false
       | else-loop-clocks-test w ↦ no_clock K most limit clocks instructions s w.loop-clocks-test.false
     ] in
-    ended (string_bytes c.loop-clocks.text) (string_bytes c.push_str-2.new.self) c.as_str-2.result.now (string_bytes c.in_ok-line-3.line) (counts_of clocks instructions)
+    ended (string_bytes c.loop-clocks.text) (string_bytes c.push_str-2.new.self) c.as_str-2.result.now (string_bytes c.in_ok-line.line) (counts_of clocks instructions)
     (shown_from K (most - clocks) limit clocks instructions s) (shown K most limit (rig (datapath_of c.args.core.now) (m.words c.args.memory.now)))
-    c.in_ok-push_str-3.ensures.bytes c.as_str-2.ensures.value c.in_ok-line-3.ensures last c.loop-clocks.invariant.1
+    c.in_ok-push_str.ensures.bytes c.as_str-2.ensures.value c.in_ok-line.ensures last c.loop-clocks.invariant.1

@@ -1,5 +1,5 @@
 -- Every clock of the core keeps what it owes to RV32I by whole instructions.
-use Rattle.std.proofs.Common.{◌≡◌, ℕ, ◌+◌, ◌/◌, ◌%◌, Bool, true, false, cond, eqb, ltb, Some, None, Ok, Err, Option, Result, sym, refl, ap, ◌∙◌, subst}
+use Rattle.std.proofs.Common.{◌≡◌, ℕ, ◌+◌, ◌/◌, Bool, true, false, cond, Some, None, Ok, Err, Option, Result, sym, refl, ap, ◌∙◌, subst}
 use Rattle.isa.specs.declared.mnemonic.Class.TheVariants as class
 use Rattle.alu.specs.Comparisons.{compared}
 use Rattle.alu.specs.Stores as lanes
@@ -11,27 +11,24 @@ use Rattle.actions.specs.declared.action.Action.{Action}
 use Rattle.actions.specs.declared.action.Action.TheVariants.{Comp, CompI, Lui, Auipc, Ld, St, Jal, Jalr, Br}
 use Rattle.machine.specs.Machine as machine
 use Rattle.machine.specs.Machine.{Arch, Step, went, cannot, wrap, x, aligned, caused, fetched_word, loaded_word, stepped, carried, carried_word}
-use Rattle.machine.specs.declared.cause.Cause.TheVariants.{UnalignedPc, NoInstruction, UnalignedAddress, Memory}
-use Rattle.memory.specs.Meaning.{refused, read_of, write_of, allowed, patched}
+use Rattle.machine.specs.declared.cause.Cause.TheVariants.{UnalignedPc, UnalignedAddress}
+use Rattle.memory.specs.Meaning.{refused, read_of, allowed, patched}
 use Rattle.memory.specs.declared.fault.Cause.TheVariants.{BadMask}
 use Rattle.memory.specs.declared.fault.MemoryFault.{MemoryFault}
 use Rattle.memory.specs.declared.kind.Kind.{Kind}
 use Rattle.memory.specs.declared.kind.Kind.TheVariants as kind
 use Rattle.processor.specs.Accesses.{replied, words_after, word_in, written_in}
-use Rattle.processor.specs.Clocks.{Clocked, Refuses}
-use Rattle.processor.specs.declared.access.Access.{Access}
+use Rattle.processor.specs.Clocks.{Clocked}
 use Rattle.processor.specs.declared.access.Access.TheVariants as access
-use Rattle.processor.specs.declared.access.Reply.{Reply}
-use Rattle.processor.specs.declared.access.Reply.TheVariants as reply
 use Rattle.arch1.proofs.Patches.{mask_fits, closed, opened}
 use Rattle.arch1.specs.Clock.{beat_of, answered, settled, outcome_of, tick_answer, ticked_core, ticked_words}
 use Rattle.arch1.specs.Owes.{clocks_of_class, between, within, Owes, idle, fetched, decoded, loading, branching}
 use Rattle.arch1.specs.Refinement.{Keeps}
-use Rattle.arch1.specs.Transfers.{Outcome, goes, retires, refuses, transfer, access_of, access_in, executes, finishes, fetches, loads, stores}
+use Rattle.arch1.specs.Transfers.{Outcome, refuses, access_in, executes, finishes, fetches, loads, stores}
 use Rattle.arch1.specs.Datapath.{Datapath}
 use Rattle.arch1.specs.declared.phase.CoreFault.{CoreFault}
 use Rattle.arch1.specs.declared.phase.Ticked.{Ticked}
-use Rattle.arch1.specs.declared.phase.Phase.TheVariants.{T0, T1, T2, T3}
+use Rattle.arch1.specs.declared.phase.Phase.TheVariants.{T2, T3}
 
 -- what the clock of c that comes to o leaves, with these words
 abbrev Kept : (ℕ → Kind) → Arch → Step → ℕ → Datapath → Outcome → (ℕ → ℕ) → Type 0

@@ -1,12 +1,12 @@
 -- The clocks of one instruction: how a loop makes them, and that they make one step of the machine.
 use Rattle.std.proofs.Common.{◌≡◌, ℕ, zero, suc, ◌+◌, ◌-◌, ◌<◌, Bool, true, false, cond, Ok, Err, Result, sym, refl, ap, ◌∙◌, subst, arith}
-use Rattle.machine.specs.Machine.{Arch, Step, went, cannot, stepped}
+use Rattle.machine.specs.Machine.{Arch, Step, stepped}
 use Rattle.memory.specs.declared.kind.Kind.{Kind}
-use Rattle.processor.specs.Clocks.{Beat, on, retired, refused, Clocked, Retires, Refuses}
+use Rattle.processor.specs.Clocks.{Beat, on, retired, Clocked, Retires, Refuses}
 use Rattle.arch1.proofs.Clocks.{every_clock}
 use Rattle.arch1.proofs.Owed.{owes_registers, owes_pc, owes_idle}
 use Rattle.arch1.specs.Clock.{beat_of, tick_answer, ticked_core, ticked_words}
-use Rattle.arch1.specs.Owes.{clocks_of_class, between, Owes, idle, fetched, decoded, loading, branching}
+use Rattle.arch1.specs.Owes.{clocks_of_class, Owes, idle, fetched, decoded, loading, branching}
 use Rattle.arch1.specs.Refinement.{Rig, rig, start_of, ticked, answer, ticks, StillOpen, answer_on, answer_for, rig_on, rig_for, Stands, Carries, Refines}
 use Rattle.arch1.specs.Datapath.{Datapath}
 use Rattle.arch1.specs.declared.phase.CoreFault.{CoreFault}

@@ -8,7 +8,7 @@ use Rattle.alu.specs.declared.stores.Store.TheVariants.{Byte, Half, Word}
 use Rattle.memory.specs.Lanes.{merged}
 use Rattle.memory.specs.Meaning.{written, patched}
 use Rattle.memory.specs.declared.kind.Kind.{Kind}
-use Rattle.memory.specs.declared.kind.Kind.TheVariants.{Absent, Fixed, Open}
+use Rattle.memory.specs.declared.kind.Kind.TheVariants.{Open}
 
 one_lane : (n : ℕ) → n < 4 → 2 ^ n ≤ 15
 one_lane zero h = omega arith

@@ -1,5 +1,5 @@
 -- The register-transfer table of ARCH-1: what each phase does to the registers of the core, by the class of the instruction in IR.
-use Rattle.std.specs.Prelude.{ℕ, ◌+◌, ◌/◌, ◌%◌, ◌^◌, Bool, cond, Some, None, Ok, Err, Option, Result}
+use Rattle.std.specs.Prelude.{ℕ, ◌+◌, ◌/◌, Bool, cond, Some, None, Ok, Err, Option, Result}
 use Rattle.alu.specs.Operations.{operated}
 use Rattle.alu.specs.Comparisons.{compared}
 use Rattle.alu.specs.Loads.{loaded_of}

@@ -1,5 +1,5 @@
 -- A step, a run and a way back keep what is sound, and what is sound stands.
-use Rattle.std.proofs.Common.{◌≡◌, ℕ, zero, suc, ◌+◌, ◌-◌, ◌*◌, ◌%◌, ◌^◌, ◌<◌, ◌≤◌, Bool, true, false, cond, ltb, List, [], ◌∷◌, Some, Ok, Err, Result, sym, refl, ap, ◌∙◌, subst, arith}
+use Rattle.std.proofs.Common.{◌≡◌, ℕ, zero, suc, ◌+◌, ◌-◌, ◌*◌, ◌%◌, ◌^◌, ◌≤◌, Bool, true, false, cond, ltb, List, [], ◌∷◌, Some, Ok, Err, Result, sym, refl, ap, ◌∙◌, subst, arith}
 use Rattle.isa.specs.declared.mnemonic.Class.{Class}
 use Rattle.isa.specs.declared.mnemonic.Class.TheVariants as class
 use Rattle.alu.specs.Comparisons.{compared}
@@ -16,15 +16,12 @@ use Rattle.machine.specs.Machine.{Arch, Step, went, cannot, stepped, fetched_wor
 use Rattle.memory.specs.declared.kind.Kind.{Kind}
 use Rattle.bench.proofs.Sound.{Past, Sound, sound, sound_new, TickBy, TickOutcome, tick_law, owes_phase, phase_few}
 use Rattle.bench.proofs.Undo.{Fit}
-use Rattle.bench.specs.Calls.{down, open_clocks, new_state, tick_answer, ticked_state, entry, advanced, advanced_by, stepped_of, last_answer, step_answer_on, stepped_on, step_answer_for, stepped_for, step_answer, stepped_state}
-use Rattle.bench.specs.Calls.{run_answer_on, ran_on, run_answer_for, ran_for, run_answer, ran_state, closed_state, put_back, took_back, took_answer, back_state, back_answer}
+use Rattle.bench.specs.Calls.{down, open_clocks, new_state, tick_answer, ticked_state, entry, advanced_by, stepped_of, last_answer, step_answer_on, stepped_on, step_answer_for, stepped_for, step_answer, stepped_state}
+use Rattle.bench.specs.Calls.{run_answer_on, ran_on, run_answer_for, ran_for, run_answer, ran_state, closed_state, took_back, took_answer, back_state, back_answer}
 use Rattle.bench.specs.Law.{Start, Stands, Next, tick_count, step_count, run_count, back_count}
 use Rattle.bench.specs.State.{State}
-use Rattle.bench.specs.declared.answers.BackFault.{BackFault}
-use Rattle.bench.specs.declared.answers.RunFault.{RunFault}
 use Rattle.bench.specs.declared.answers.Stepped.{Stepped}
 use Rattle.bench.specs.declared.answers.Stop.TheVariants as stop
-use Rattle.bench.specs.declared.tick.Advanced.{Advanced}
 
 -- what a step says of its instruction
 abbrev Told : (ℕ → Kind) → Arch → Class → Stepped → Type 0

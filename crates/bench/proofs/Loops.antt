@@ -1,5 +1,5 @@
 -- How the loops of a step and of a run make what their definitions say.
-use Rattle.std.proofs.Common.{◌≡◌, ℕ, zero, suc, ◌+◌, ◌-◌, ◌<◌, Bool, true, false, cond, Ok, Err, Result, sym, refl, ap, ◌∙◌, arith}
+use Rattle.std.proofs.Common.{◌≡◌, ℕ, suc, ◌+◌, ◌-◌, ◌<◌, Bool, true, false, cond, Ok, Err, Result, sym, refl, ap, ◌∙◌, arith}
 use Rattle.arch1.specs.declared.phase.CoreFault.{CoreFault}
 use Rattle.arch1.specs.declared.phase.Ticked.{Ticked}
 use Rattle.bench.specs.Calls.{advanced_by, advanced, ticked_state, stepped_of, last_answer, step_answer_on, stepped_on, step_answer_for, stepped_for}

@@ -1,10 +1,9 @@
 -- The entry of a retired instruction takes it back.
-use Rattle.std.proofs.Common.{◌≡◌, ℕ, ◌+◌, ◌*◌, ◌/◌, ◌%◌, ◌^◌, ◌<◌, Bool, true, false, cond, eqb, ltb, List, get_or, set, Some, None, Ok, Err, Option, Result, sym, refl, ap, ◌∙◌, subst, arith, set-set}
+use Rattle.std.proofs.Common.{◌≡◌, ℕ, ◌+◌, ◌*◌, ◌/◌, ◌^◌, ◌<◌, Bool, true, false, cond, eqb, ltb, List, get_or, set, Some, None, Ok, Err, Option, Result, sym, refl, ap, ◌∙◌, subst, arith, set-set}
 use mathlib.Core.Path.{fun_ext}
 use lib.Seq.{set-get_or}
 use Rattle.std.proofs.lemmas.Bool.{eqb-true}
 use Rattle.isa.specs.declared.mnemonic.Class.{Class}
-use Rattle.isa.specs.declared.mnemonic.Class.TheVariants as class
 use Rattle.alu.specs.Comparisons.{compared}
 use Rattle.alu.specs.Stores as lanes
 use Rattle.alu.specs.declared.comparisons.Comparison.{Comparison}
@@ -28,13 +27,12 @@ use Rattle.processor.specs.Clocks.{Beat, on, retired, refused as refusedBeat}
 use Rattle.processor.specs.declared.access.Access.TheVariants as access
 use Rattle.registers.specs.Registers.{writable, value_of, put_into}
 use Rattle.arch1.proofs.Patches.{mask_fits, opened}
-use Rattle.arch1.specs.Clock.{beat_of, answered, outcome_of, tick_answer}
+use Rattle.arch1.specs.Clock.{beat_of, answered, tick_answer}
 use Rattle.arch1.specs.Datapath.{Datapath}
 use Rattle.arch1.specs.Owes.{between, within, Owes, idle, fetched, decoded, loading, branching}
 use Rattle.arch1.specs.Transfers.{access_in, executes, finishes, fetches, loads, stores, refuses}
-use Rattle.arch1.specs.declared.phase.Phase.TheVariants.{T0, T1, T2, T3}
+use Rattle.arch1.specs.declared.phase.Phase.TheVariants.{T2, T3}
 use Rattle.journal.specs.declared.entry.Entry.{Entry}
-use Rattle.journal.specs.declared.entry.Overwritten.TheVariants.{Bytes}
 use Rattle.bench.specs.Entries.{entry_of, old_bytes_in, overwritten_in_t2, overwritten_in_t3, undone_registers, undone_words}
 
 -- every word has 32 bits

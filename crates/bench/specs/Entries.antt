@@ -1,5 +1,5 @@
 -- What the journal keeps of an instruction, and how it is taken back.
-use Rattle.std.specs.Prelude.{ℕ, suc, ◌+◌, ◌/◌, List, Some, None, Ok, Err, Option, Result}
+use Rattle.std.specs.Prelude.{ℕ, ◌+◌, ◌/◌, List, Some, None, Ok, Err, Option, Result}
 use Rattle.alu.specs.Stores.{mask_of}
 use Rattle.actions.specs.Actions.{action_of_word}
 use Rattle.actions.specs.declared.action.Action.{Action}

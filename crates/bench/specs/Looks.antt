@@ -1,5 +1,5 @@
 -- What a look shows.
-use Rattle.std.specs.Prelude.{ℕ, ◌*◌, ◌/◌, ◌%◌, Bool, cond, length, Ok, Err, Result, nat_lt}
+use Rattle.std.specs.Prelude.{ℕ, ◌/◌, ◌%◌, cond, length, Ok, Err, Result, nat_lt}
 use Rattle.arch1.specs.Phases.{phase_number}
 use Rattle.memory.specs.Lanes.{lane}
 use Rattle.memory.specs.Meaning.{read_of}

@@ -1,6 +1,6 @@
 -- What a write at the next place, and a step back, are on the list of the entries.
 -- Assumes nothing.
-use Rattle.std.proofs.Common.{◌≡◌, ℕ, zero, suc, ◌+◌, ◌-◌, ◌%◌, ◌<◌, ◌≤◌, true, false, ltb, ◌≢◌, List, [], ◌∷◌, length, get_or, take, set, Some, refl, ap, ap₂, inl, inr, le_of_suc-le-suc, add-one, arith, take_all, get_or-set_other, get_or-set_same, ltb-false, ltb-true}
+use Rattle.std.proofs.Common.{◌≡◌, ℕ, zero, suc, ◌+◌, ◌-◌, ◌%◌, ◌<◌, ◌≤◌, ltb, ◌≢◌, List, ◌∷◌, length, get_or, take, set, Some, refl, ap, ap₂, inl, inr, le_of_suc-le-suc, add-one, arith, take_all, get_or-set_other, get_or-set_same, ltb-false, ltb-true}
 use Rattle.std.proofs.lemmas.Bool.{cases_Bool}
 use Rattle.journal.specs.declared.entry.Entry.{Entry}
 use Rattle.journal.specs.Entries.{empty}

@@ -1,5 +1,5 @@
 -- What a memory of the kinds K and the words W replies to an access, and what words it has afterwards.
-use Rattle.std.specs.Prelude.{ℕ, Bool, true, false, Ok, Err, Result}
+use Rattle.std.specs.Prelude.{ℕ, Bool, true, false, Ok, Result}
 use Rattle.memory.specs.Meaning.{read_of, write_of, patched}
 use Rattle.memory.specs.declared.fault.MemoryFault.{MemoryFault}
 use Rattle.memory.specs.declared.kind.Kind.{Kind}

@@ -1,5 +1,4 @@
-use Rattle.std.proofs.Common.{◌≡◌, ◌+◌, ◌<◌, List, length, get_or, take, drop, set, ap, ◌∙◌, arith}
-use Rattle.std.proofs.lemmas.List.{drop-set-lt}
+use Rattle.std.proofs.Common.{◌≡◌, ◌+◌, ◌<◌, length, get_or, take, set, ap, ◌∙◌, arith}
 use Rattle.bench.specs.State.{state_of}
 use Rattle.session.proofs.Prefixes.{state_more, answer_more, later_more}
 use Rattle.session.specs.Lists.{answered, called, played}

@@ -1,4 +1,4 @@
-use Rattle.std.proofs.Common.{◌≡◌, length, take, drop}
+use Rattle.std.proofs.Common.{◌≡◌, take, drop}
 use Rattle.bench.specs.State.{state_of}
 use Rattle.session.specs.Lists.{answers, played}
 use Rattle.session.proofs.playing.make_all.Given as goal

@@ -3,6 +3,8 @@
 #![tactic(auto)]
 
 #[cfg(test)]
+mod checks;
+#[cfg(test)]
 mod layers_at_their_ends;
 #[cfg(test)]
 mod stacks;

@@ -1,5 +1,5 @@
+use super::checks::check_eq;
 use memory::{Kind, MemoryFault, ReadMemory, WriteMemory};
-use std::process::Abort;
 use std::test::Fail;
 use stores::{ByteImage, ReadOnlyImage, WordBank};
 
@@ -37,25 +37,20 @@ fn seven_bytes(rt: HostRuntime) {
 }
 
 /// Every mask from 0 to 16 on an open word of any memory, and on a word that is absent.
-fn open_by_mask<M: WriteMemory>(
-    rt: &impl Abort,
-    memory: &mut M,
-    k: u32,
-    absent: u32,
-) -> Result<(), Fail> {
+fn open_by_mask<M: WriteMemory>(memory: &mut M, k: u32, absent: u32) -> Result<(), Fail> {
     for mask in 0..17 {
         let old = memory.read(k).ok().ok_or("no word")?;
         let refusal = if mask > 15 { 9 } else { 0 };
-        assert_eq!(rt; number(memory.write(k, 0xa1b2_c3d4, mask)), refusal);
+        check_eq(number(memory.write(k, 0xa1b2_c3d4, mask)), refusal)?;
         let new = if mask > 15 {
             old
         } else {
             expected(mask, 0xa1b2_c3d4, old)
         };
-        assert_eq!(rt; memory.read(k).ok(), Some(new));
-        assert_eq!(rt; number(memory.write(k, 0x0102_0304, 15)), 0);
+        check_eq(memory.read(k).ok(), Some(new))?;
+        check_eq(number(memory.write(k, 0x0102_0304, 15)), 0)?;
         let refusal = if mask > 15 { 9 } else { 2 };
-        assert_eq!(rt; number(memory.write(absent, 0xa1b2_c3d4, mask)), refusal);
+        check_eq(number(memory.write(absent, 0xa1b2_c3d4, mask)), refusal)?;
     }
     Ok(())
 }
@@ -64,10 +59,10 @@ fn open_by_mask<M: WriteMemory>(
 fn masks_on_open_words(rt: HostRuntime) -> Result<(), Fail> {
     let mut bytes = [9u8; 11];
     let mut image = ByteImage::new(&mut bytes);
-    open_by_mask(&rt, &mut image, 1, 2)?;
+    open_by_mask(&mut image, 1, 2)?;
     let mut words = [7u32; 3];
     let mut bank = WordBank::new(&mut words);
-    open_by_mask(&rt, &mut bank, 2, 3)?;
+    open_by_mask(&mut bank, 2, 3)?;
     assert_eq!(rt; words, [7, 7, 0x0102_0304]);
     Ok(())
 }

@@ -1,6 +1,11 @@
 -- A word is known by its fields, and a signed number of so many bits by the number that it stands for.
 -- Assumes nothing.
-use Rattle.std.proofs.Common.{◌≡◌, ℕ, suc, ◌+◌, ◌-◌, ◌%◌, ◌^◌, ◌<◌, ◌≤◌, ◌⊎◌, ℤ, pos, negsuc, ◌+ℤ◌, sym, refl, ap, ◌∙◌, inl, inr, ⊎_elim, one-mul, arith, rules}
+use Rattle.std.proofs.Common.{◌≡◌, ℕ, suc, ◌+◌, ◌-◌, ◌%◌, ◌^◌, ◌<◌, ◌≤◌, ◌⊎◌, ℤ, pos, negsuc, ◌+ℤ◌, sym, refl, ap, ◌∙◌, inl, inr, ⊎_elim, one-mul, arith, rules, Ok, Err, Result, MatchResult}
+use Rattle.isa.specs.declared.refusal.Refusal.{Refusal}
+use Rattle.isa.specs.Refusals.{number_of}
+use Rattle.encode.specs.Words.{Within, Carries, Filled}
+use Rattle.isa.specs.declared.table.Row.{Row}
+use Rattle.isa.specs.Table.{Agrees}
 use Rattle.std.proofs.lemmas.Int.{ints}
 use Rattle.std.proofs.lemmas.Bool.{cases_lt}
 use Rattle.bits.specs.Field.{field}
@@ -9,7 +14,7 @@ use Rattle.bits.proofs.SignExtension.{doubled, top_clear, top_set}
 use Rattle.isa.specs.declared.instruction.Instruction.{Instruction}
 use Rattle.isa.specs.declared.mnemonic.Format.{Format}
 use Rattle.isa.specs.declared.mnemonic.Format.TheVariants.{Store, Branch, Jump}
-use Rattle.isa.specs.Fitting.{Holds}
+use Rattle.isa.specs.Fitting.{Holds, Divides}
 use Rattle.isa.specs.Immediates.{imm_s, imm_b, imm_j, immediate_of}
 use Rattle.isa.specs.Reading.{rd_of, rs1_of, rs2_of, in_format}
 
@@ -53,6 +58,19 @@ by_sign width some x z fits e =
     (λ lo. let v = low_value width some x lo in inl (lo, sym e ∙ v))
     (λ hi. let v = high_value width some x fits hi in inr (hi, omega (arith, ints)))
     (cases_lt x (2 ^ (width - 1)))
+
+-- it is even if the number is
+even_bits : (width : ℕ) → 0 < width → (x : ℕ) (z : ℤ) → x < 2 ^ width → signed_of width x ≡ z → Divides 2 z → x % 2 ≡ 0
+even_bits width some x z fits e even =
+    let two = doubled width some in
+    ⊎_elim
+    (λ l. rw l.1 at even)
+    (λ h. let above : suc (2 ^ width - suc x) % 2 ≡ 0 = rw h.1 at even in omega arith)
+    (by_sign width some x z fits e)
+
+pub even_cut : (r : Result ℕ Refusal) (width : ℕ) (z : ℤ) → 0 < width → Divides 2 z → MatchResult r (λ x. (x < 2 ^ width) × (signed_of width x ≡ z)) (λ e. (number_of e ≡ 10) × (Within width z → ⊥)) → MatchResult r (λ x. (x < 2 ^ width) × (x % 2 ≡ 0) × (signed_of width x ≡ z)) (λ e. (number_of e ≡ 10) × (Within width z × Divides 2 z → ⊥))
+even_cut (Ok x) width z some even h = (h.0, even_bits width some x z h.0 h.1 even, h.1)
+even_cut (Err e) width z some even h = (h.0, λ p. h.1 p.0)
 
 -- so it is in the range of its format
 pub holds_twelve : (x : ℕ) (z : ℤ) → x < 2 ^ 12 → signed_of 12 x ≡ z → Holds Store z
@@ -100,3 +118,37 @@ same_offset f width imm some below is i v x whole fits value =
 -- an instruction is known by its operands
 pub same_operands : (f : Format) (i : Instruction) (w : ℕ) → i.rd ≡ rd_of f w → i.rs1 ≡ rs1_of f w → i.rs2 ≡ rs2_of f w → i.immediate ≡ immediate_of f w → i ≡ in_format f i.mnemonic w
 same_operands f i w a b c d = rw (← a, ← b, ← c, ← d) refl
+
+-- a format with two registers and an immediate of `width` bits, imm, in the places of rd and funct7
+pub record TwoSources (f : Format) (width : ℕ) (imm : ℕ → ℕ) : Type 0 where
+  some : 0 < width
+  below : (w : ℕ) → imm w < 2 ^ width
+  value : (w : ℕ) → immediate_of f w ≡ signed_of width (imm w)
+  rd : (w : ℕ) → rd_of f w ≡ 0
+  rs1 : (w : ℕ) → rs1_of f w ≡ field 15 5 w
+  rs2 : (w : ℕ) → rs2_of f w ≡ field 20 5 w
+  agrees : (r : Row) (o c g : ℕ) → o ≡ r.opcode → c ≡ r.funct3 → Agrees f r o c g
+  codes : (r : Row) (o c g : ℕ) → Agrees f r o c g → (o ≡ r.opcode) × (c ≡ r.funct3)
+
+pub stores : TwoSources Store 12 imm_s
+stores = record { some = search rules; below = below_s; value = λ _. refl; rd = λ _. refl; rs1 = λ _. refl; rs2 = λ _. refl; agrees = λ _ _ _ _ a b. (a, b); codes = λ _ _ _ _ h. h }
+
+pub branches : TwoSources Branch 13 imm_b
+branches = record { some = search rules; below = below_b; value = λ _. refl; rd = λ _. refl; rs1 = λ _. refl; rs2 = λ _. refl; agrees = λ _ _ _ _ a b. (a, b); codes = λ _ _ _ _ h. h }
+
+module _ (f : Format) (width : ℕ) (imm : ℕ → ℕ) (form : TwoSources f width imm) (r : Row) (i : Instruction) (x rd rs2 funct7 w : ℕ) (made : Filled r rd i.rs1 rs2 funct7 w) (second : rs2 ≡ i.rs2) (word : w < 2 ^ 32) (fits : x < 2 ^ width) (value : signed_of width x ≡ i.immediate) where
+  -- no other word has the instruction i
+  pub only_word : ((v : ℕ) → imm v ≡ x → (field 7 5 v ≡ rd) × (field 25 7 v ≡ funct7)) → (v : ℕ) → Carries f r i v → w ≡ v
+  only_word slots v k =
+      let there = slots v (same_offset f width imm form.some form.below form.value i v x k.operands fits value) in
+      let codes = form.codes r _ _ _ k.codes in
+      let rs1 : i.rs1 ≡ field 15 5 v = ap (λ (j : Instruction). j.rs1) k.operands ∙ form.rs1 v in
+      let rs2 : i.rs2 ≡ field 20 5 v = ap (λ (j : Instruction). j.rs2) k.operands ∙ form.rs2 v in
+      same_word w v word k.word (made.opcode ∙ sym codes.0) (made.rd ∙ sym there.0) (made.funct3 ∙ sym codes.1) (made.rs1 ∙ rs1) (made.rs2 ∙ second ∙ rs2) (made.funct7 ∙ sym there.1)
+
+  pub carries : (field 7 5 w ≡ rd → field 25 7 w ≡ funct7 → imm w ≡ x) → i.rd ≡ 0 → Carries f r i w
+  carries back none = record {
+    word = word;
+    codes = form.agrees r _ _ _ made.opcode made.funct3;
+    operands = same_operands f i w (none ∙ sym (form.rd w)) (sym made.rs1 ∙ sym (form.rs1 w)) (sym (made.rs2 ∙ second) ∙ sym (form.rs2 w)) (sym value ∙ sym (ap (signed_of width) (back made.rd made.funct7)) ∙ sym (form.value w));
+  }

@@ -27,8 +27,17 @@ Only f r i a = (v : ℕ) → Carries f r i v → a ≡ Ok v
 abbrev pub Written : Format → Row → Instruction → Result ℕ Refusal → Type 0
 Written f r i a = MatchResult a (λ w. Carries f r i w × FitsFormat f i) (λ e. (number_of e ≡ 10) × (FitsFormat f i → ⊥))
 
--- the codes of a row fit their fields
-pub record Coded (r : Row) : Type 0 where
-  pub opcode : r.opcode < 2 ^ 7
-  pub funct3 : r.funct3 < 2 ^ 3
-  pub funct7 : r.funct7 < 2 ^ 7
+-- the word w has the row's opcode and funct3, the registers d, s and t, and g as its funct7
+pub record Filled (r : Row) (d s t g w : ℕ) : Type 0 where
+  pub opcode : field 0 7 w ≡ r.opcode
+  pub rd : field 7 5 w ≡ d
+  pub funct3 : field 12 3 w ≡ r.funct3
+  pub rs1 : field 15 5 w ≡ s
+  pub rs2 : field 20 5 w ≡ t
+  pub funct7 : field 25 7 w ≡ g
+
+-- the word w has the row's opcode, the register d, and u in the bits above them
+pub record FilledUpper (r : Row) (d u w : ℕ) : Type 0 where
+  pub opcode : field 0 7 w ≡ r.opcode
+  pub rd : field 7 5 w ≡ d
+  pub upper : field 12 20 w ≡ u

@@ -2,14 +2,13 @@ ghost use Rattle.std.specs.Prelude.{◌≡◌, ℕ, ◌^◌, ◌<◌, Ok, MatchR
 ghost use Rattle.isa.specs.Fitting.{Fits};
 ghost use Rattle.isa.specs.Reading.{Reads};
 ghost use Rattle.isa.specs.Refusals.{number_of};
-ghost use Rattle.encode.specs.Words.{Coded, Only, Written};
+ghost use Rattle.encode.specs.Words.{Only, Written};
 
 use super::formats::{b_type, i_type, j_type, r_type, s_type, shift_type, u_type};
 use isa::{Format, Instruction, Refusal, Row};
 
 // The word of `i` in the row's own format.
 fn encode_row(row: Row, i: &Instruction) -> Result<u32, Refusal>
-    requires { Coded row }
     ensures only { Only row.format row i.now result }
     ensures written { Written row.format row i.now result }
 {

@@ -1,25 +1,49 @@
-ghost use Rattle.std.specs.Prelude.{◌≡◌, ℕ, ◌%◌, ◌^◌, ◌<◌, MatchOption};
+ghost use Rattle.std.specs.Prelude.{◌≡◌, ℕ, ◌%◌, ◌^◌, ◌<◌, MatchResult};
 ghost use Rattle.bits.specs.Field.{field};
 ghost use Rattle.bits.specs.Sign.{signed_of};
-ghost use Rattle.isa.specs.Immediates.{imm_b, imm_j};
+ghost use Rattle.isa.specs.Immediates.{imm_b, imm_j, imm_s};
+ghost use Rattle.isa.specs.Fitting.{Divides};
+ghost use Rattle.isa.specs.Refusals.{number_of};
 ghost use Rattle.encode.specs.Words.{Within};
 
 use bits::field;
+use isa::Refusal;
 
-// The `width` bits that stand for `z` in two's complement, if it has that many.
-pub(super) fn cut(z: i64, width: u32) -> Option<u32>
+// The `width` bits that stand for `z` in two's complement. Refuses 10 if it has not that many.
+pub(super) fn cut(z: i64, width: u32) -> Result<u32, Refusal>
     requires { (0 < width) × (width < 32) }
-    ensures { MatchOption result (Within width z → ⊥) (λ x. (x < 2 ^ width) × (signed_of width x ≡ z)) }
+    ensures { MatchResult result (λ x. (x < 2 ^ width) × (signed_of width x ≡ z)) (λ e. (number_of e ≡ 10) × (Within width z → ⊥)) }
 {
     let half: u32 = 1 << (width - 1);
     if z < -i64::from(half) || z >= i64::from(half) {
-        return None;
+        return Err(Refusal::DoesNotFit);
     }
     if z < 0 {
-        Some(half + (z + i64::from(half)) as u32)
+        Ok(half + (z + i64::from(half)) as u32)
     } else {
-        Some(z as u32)
+        Ok(z as u32)
     }
+}
+
+// The same of an offset, which is even.
+pub(super) fn offset(z: i64, width: u32) -> Result<u32, Refusal>
+    requires { (0 < width) × (width < 32) }
+    ensures { MatchResult result (λ x. (x < 2 ^ width) × (x % 2 ≡ 0) × (signed_of width x ≡ z)) (λ e. (number_of e ≡ 10) × (Within width z × Divides 2 z → ⊥)) }
+{
+    if z % 2 != 0 {
+        return Err(Refusal::DoesNotFit);
+    }
+    cut(z, width)
+}
+
+// The fields rd and funct7 of a store whose offset has the bits `x`.
+pub(super) fn store_slots(x: u32) -> (u32, u32)
+    requires { x < 2 ^ 12 }
+    ensures bounds { (result.0 < 32) × (result.1 < 2 ^ 7) }
+    ensures back { (w : ℕ) → field 7 5 w ≡ result.0 → field 25 7 w ≡ result.1 → imm_s w ≡ x }
+    ensures there { (w : ℕ) → imm_s w ≡ x → (field 7 5 w ≡ result.0) × (field 25 7 w ≡ result.1) }
+{
+    (field(x, 0, 5), field(x, 5, 7))
 }
 
 // The fields rd and funct7 of a branch whose offset has the bits `x`.

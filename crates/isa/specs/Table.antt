@@ -1,5 +1,6 @@
 -- The table of the instructions, as the manual lists them: class, format, opcode, funct3 and funct7 of each mnemonic.
-use Rattle.std.specs.Prelude.{◌≡◌, ℕ}
+use Rattle.std.specs.Prelude.{◌≡◌, ℕ, ◌%◌, ◌^◌}
+use Rattle.std.proofs.lemmas.Nat.{mod_below, pow_pos}
 use Rattle.isa.specs.declared.table.Row.{Row}
 use Rattle.isa.specs.declared.mnemonic.Class.{Class}
 use Rattle.isa.specs.declared.mnemonic.Class.TheVariants.{Comp, CompI, Ld, St, Br}
@@ -12,8 +13,18 @@ use Rattle.isa.specs.declared.mnemonic.Mnemonic.TheVariants.{Addi, Slli, Slti, S
 use Rattle.isa.specs.declared.mnemonic.Mnemonic.TheVariants.{Lui, Auipc, Lb, Lh, Lw, Lbu, Lhu, Sb, Sh, Sw, Jal, Jalr}
 use Rattle.isa.specs.declared.mnemonic.Mnemonic.TheVariants.{Beq, Bne, Blt, Bge, Bltu, Bgeu}
 
+-- each code is one of its field: opcode and funct7 have seven bits and funct3 has three
 abbrev entry : Class → Format → ℕ → ℕ → ℕ → Row
-entry c t o f g = record { class = c; format = t; opcode = o; funct3 = f; funct7 = g }
+entry c t o f g = record {
+  class = c;
+  format = t;
+  opcode = o % 2 ^ 7;
+  funct3 = f % 2 ^ 3;
+  funct7 = g % 2 ^ 7;
+  opcode_fits = mod_below o (2 ^ 7) (pow_pos 7);
+  funct3_fits = mod_below f (2 ^ 3) (pow_pos 3);
+  funct7_fits = mod_below g (2 ^ 7) (pow_pos 7);
+}
 
 -- 0 stands where the format has no such field
 abbrev pub row_of : Mnemonic → Row

@@ -41,7 +41,7 @@ pub enum Mnemonic {
 }
 
 /// The nine classes of instructions, one for each opcode.
-#[derive(Clone, Copy)]
+#[derive(Clone, Copy, PartialEq, Eq, Debug)]
 pub enum Class {
     /// An operation on two registers.
     Comp,
@@ -60,7 +60,7 @@ pub enum Class {
 }
 
 /// Where a word has its operands.
-#[derive(Clone, Copy)]
+#[derive(Clone, Copy, PartialEq, Eq, Debug)]
 pub enum Format {
     /// R: rd, rs1, rs2.
     Register,

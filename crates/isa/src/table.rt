@@ -1,21 +1,24 @@
 ghost use Rattle.std.specs.Prelude.{◌≡◌, ◌^◌, ◌<◌};
-ghost use Rattle.isa.specs.Table.{row_of};
 
 use super::mnemonic::{Class, Format, Mnemonic};
 
 /// A row of the table of instructions. A field that the format lacks is 0.
-#[derive(Clone, Copy)]
+#[derive(Clone, Copy, PartialEq, Eq, Debug)]
 pub struct Row {
     pub class: Class,
     pub format: Format,
     pub opcode: u8,
     pub funct3: u8,
     pub funct7: u8,
+    pub ghost opcode_fits: { opcode < 2 ^ 7 },
+    pub ghost funct3_fits: { funct3 < 2 ^ 3 },
+    pub ghost funct7_fits: { funct7 < 2 ^ 7 },
 }
 
 // One line of the table below.
 fn entry(class: Class, format: Format, opcode: u8, funct3: u8, funct7: u8) -> Row
-    ensures { result ≡ record { class = class; format = format; opcode = opcode; funct3 = funct3; funct7 = funct7 } }
+    requires { (opcode < 2 ^ 7) × (funct3 < 2 ^ 3) × (funct7 < 2 ^ 7) }
+    ensures { (result.class ≡ class) × (result.format ≡ format) × (result.opcode ≡ opcode) × (result.funct3 ≡ funct3) × (result.funct7 ≡ funct7) }
 {
     Row {
         class,
@@ -27,10 +30,12 @@ fn entry(class: Class, format: Format, opcode: u8, funct3: u8, funct7: u8) -> Ro
 }
 
 impl Mnemonic {
+    // Here and not at the top, since it names `Row`, which has ghost fields.
+    ghost use Rattle.isa.specs.Table.{row_of};
+
     /// The mnemonic's row.
     pub fn row(self) -> Row
-        ensures value { result ≡ row_of self }
-        ensures bound { (result.opcode < 2 ^ 7) × (result.funct3 < 2 ^ 3) × (result.funct7 < 2 ^ 7) }
+        ensures { result ≡ row_of self }
     {
         match self {
             Mnemonic::Add => entry(Class::Comp, Format::Register, 0b0110011, 0b000, 0b0000000),

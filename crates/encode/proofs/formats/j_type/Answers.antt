@@ -7,19 +7,19 @@ use Rattle.isa.specs.Immediates.{imm_j}
 use Rattle.encode.proofs.Unique.{same_upper, same_offset, same_operands, below_j, holds_jump}
 use Rattle.encode.proofs.formats.j_type.Goals as goal
 
-pub returns-in-Some : goal.returns-in-Some
-returns-in-Some c =
+pub returns : goal.returns
+returns c =
     let i = c.args.i.now in
-    let x = c.in-Some.x in
+    let x = c.in_ok-offset.field-0 in
     let w = c.assemble_upper.result in
     let made = c.assemble_upper.ensures in
-    let fits = c.in-Some.ensures.0 in
+    let told = c.in_ok-offset.ensures in
     let f : SFits w64 i.immediate = search rules in
-    let value : signed_of 21 x ≡ i.immediate = simp to_z-of_z at c.in-Some.ensures.1 in
+    let value : signed_of 21 x ≡ i.immediate = simp to_z-of_z at told.2 in
     let back = c.jump_slot.ensures.back w made.upper in
     record {
       only = λ v k.
-          let there = c.jump_slot.ensures.there v (same_offset Jump 21 imm_j (search rules) below_j (λ _. refl) i v x k.operands fits value) in
+          let there = c.jump_slot.ensures.there v (same_offset Jump 21 imm_j (search rules) below_j (λ _. refl) i v x k.operands told.0 value) in
           ap Ok (same_upper w v c.assemble_upper.type_inv k.word (made.opcode ∙ sym k.codes) (made.rd ∙ ap (λ (j : Instruction). j.rd) k.operands) (made.upper ∙ sym there));
       written = (
         record {
@@ -27,6 +27,6 @@ returns-in-Some c =
           codes = made.opcode;
           operands = same_operands Jump i w (sym made.rd) (search rules) (search rules) (sym (ap (signed_of 21) back ∙ value));
         },
-        (search rules, search rules, search rules, holds_jump x i.immediate fits (search rules) value),
+        (search rules, search rules, search rules, holds_jump x i.immediate told.0 told.1 value),
       );
     }

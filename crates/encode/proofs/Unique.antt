@@ -1,12 +1,14 @@
 -- A word is known by its fields, and a signed number of so many bits by the number that it stands for.
 -- Assumes nothing.
-use Rattle.std.proofs.Common.{◌≡◌, ℕ, suc, ◌+◌, ◌-◌, ◌%◌, ◌^◌, ◌<◌, ◌≤◌, ◌⊎◌, ℤ, pos, negsuc, ◌+ℤ◌, sym, refl, ap, ◌∙◌, inl, inr, ⊎_elim, one-mul, arith, rules, Ok, Err, Result, MatchResult}
+use Rattle.std.proofs.Common.{◌≡◌, ℕ, suc, ◌-◌, ◌%◌, ◌^◌, ◌<◌, ◌≤◌, ◌⊎◌, ℤ, pos, negsuc, ◌+ℤ◌, ◌<ℤ◌, ◌≤ℤ◌, sym, refl, ap, ◌∙◌, inl, inr, ⊎_elim, one-mul, arith, rules, Ok, Err, Result, MatchResult, mod-eq_of_lt}
 use Rattle.isa.specs.declared.refusal.Refusal.{Refusal}
 use Rattle.isa.specs.Refusals.{number_of}
 use Rattle.encode.specs.Words.{Within, Carries, Filled}
 use Rattle.isa.specs.declared.table.Row.{Row}
 use Rattle.isa.specs.Table.{Agrees}
 use Rattle.std.proofs.lemmas.Int.{ints}
+use Rattle.std.specs.Int.{int_rem_euclid}
+use Rattle.std.proofs.lemmas.Nat.{pow_pos}
 use Rattle.std.proofs.lemmas.Bool.{cases_lt}
 use Rattle.bits.specs.Field.{field}
 use Rattle.bits.specs.Sign.{signed_of}
@@ -41,14 +43,23 @@ module _ (width : ℕ) (some : 0 < width) where
       (λ ga. let va = high_value a ha ga in ⊎_elim (λ lb. let vb = low_value b lb in omega (arith, ints)) (λ gb. let vb = high_value b hb gb in omega (arith, ints)) (cases_lt b (2 ^ (width - 1))))
       (cases_lt a (2 ^ (width - 1)))
 
-  pub cut_low : (x : ℕ) (z : ℤ) → x < 2 ^ (width - 1) → pos x ≡ z → (x < 2 ^ width) × (signed_of width x ≡ z)
-  cut_low x z low is = let two = doubled width some in (omega arith, low_value x low ∙ is)
-
-  pub cut_high : (x : ℕ) (z : ℤ) → x < 2 ^ (width - 1) → pos x ≡ z +ℤ pos (2 ^ (width - 1)) → (2 ^ (width - 1) + x < 2 ^ width) × (signed_of width (2 ^ (width - 1) + x) ≡ z)
-  cut_high x z low is =
+  -- the bits of a number are its residue
+  pub residue : (x : ℕ) (z : ℤ) → Within width z → pos x ≡ int_rem_euclid z (pos (2 ^ width)) → (x < 2 ^ width) × (signed_of width x ≡ z)
+  residue x (pos a) within is =
       let two = doubled width some in
-      let fits : 2 ^ (width - 1) + x < 2 ^ width = omega arith in
-      let value = high_value (2 ^ (width - 1) + x) fits (omega arith) in
+      let under : pos a <ℤ pos (2 ^ (width - 1)) = within.1 in
+      let some_half = pow_pos (width - 1) in
+      let low : a < 2 ^ (width - 1) = omega (arith, ints) in
+      let same : x ≡ a = let e : x ≡ a % 2 ^ width = cc in e ∙ mod-eq_of_lt (omega arith) in
+      rw same (omega arith, low_value a low)
+  residue x (negsuc a) within is =
+      let two = doubled width some in
+      let over : negsuc (2 ^ (width - 1) - 1) ≤ℤ negsuc a = within.0 in
+      let some_half = pow_pos (width - 1) in
+      let low : a < 2 ^ (width - 1) = omega (arith, ints) in
+      let same : x ≡ 2 ^ width - 1 - a = let e : x ≡ 2 ^ width - 1 - a % 2 ^ width = cc in e ∙ ap (λ n. 2 ^ width - 1 - n) (mod-eq_of_lt (omega arith)) in
+      let fits : x < 2 ^ width = omega arith in
+      let value = high_value x fits (omega arith) in
       (fits, omega (arith, ints))
 
 -- what a number of so many bits stands for: itself, or below zero by what is missing to 2 ^ width

@@ -2,16 +2,16 @@ ghost use Rattle.std.specs.Prelude.{◌≡◌, ℕ, ◌^◌, ◌<◌, Ok, MatchR
 ghost use Rattle.isa.specs.Fitting.{Fits};
 ghost use Rattle.isa.specs.Reading.{Reads};
 ghost use Rattle.isa.specs.Refusals.{number_of};
-ghost use Rattle.encode.specs.Words.{Only, Written};
 
 use super::formats::{b_type, i_type, j_type, r_type, s_type, shift_type, u_type};
-use isa::{Format, Instruction, Refusal, Row};
+use isa::{Format, Instruction, Refusal};
 
-// The word of `i` in the row's own format.
-fn encode_row(row: Row, i: &Instruction) -> Result<u32, Refusal>
-    ensures only { Only row.format row i.now result }
-    ensures written { Written row.format row i.now result }
+/// The one word that reads as `i`. Refuses 10 if `i` does not fit its format.
+pub fn encode(i: &Instruction) -> Result<u32, Refusal>
+    ensures only { (v : ℕ) → v < 2 ^ 32 → Reads v i.now → result ≡ Ok v }
+    ensures writes { MatchResult result (λ w. (w < 2 ^ 32) × Reads w i.now × Fits i.now) (λ e. (number_of e ≡ 10) × (Fits i.now → ⊥)) }
 {
+    let row = i.mnemonic.row();
     match row.format {
         Format::Register => r_type(row, i),
         Format::Immediate => i_type(row, i),
@@ -21,12 +21,4 @@ fn encode_row(row: Row, i: &Instruction) -> Result<u32, Refusal>
         Format::Upper => u_type(row, i),
         Format::Jump => j_type(row, i),
     }
-}
-
-/// The one word that reads as `i`. Refuses 10 if `i` does not fit its format.
-pub fn encode(i: &Instruction) -> Result<u32, Refusal>
-    ensures only { (v : ℕ) → v < 2 ^ 32 → Reads v i.now → result ≡ Ok v }
-    ensures writes { MatchResult result (λ w. (w < 2 ^ 32) × Reads w i.now × Fits i.now) (λ e. (number_of e ≡ 10) × (Fits i.now → ⊥)) }
-{
-    encode_row(i.mnemonic.row(), i)
 }

@@ -13,7 +13,13 @@ pub(super) fn r_type(row: Row, i: &Instruction) -> Result<u32, Refusal>
     if i.rd > 31 || i.rs1 > 31 || i.rs2 > 31 || i.immediate != 0 {
         return Err(Refusal::DoesNotFit);
     }
-    Ok(assemble(row, u32::from(i.rd), i.rs1, u32::from(i.rs2), u32::from(row.funct7)))
+    Ok(assemble(
+        row,
+        u32::from(i.rd),
+        i.rs1,
+        u32::from(i.rs2),
+        u32::from(row.funct7),
+    ))
 }
 
 pub(super) fn i_type(row: Row, i: &Instruction) -> Result<u32, Refusal>
@@ -35,7 +41,13 @@ pub(super) fn shift_type(row: Row, i: &Instruction) -> Result<u32, Refusal>
     if i.rd > 31 || i.rs1 > 31 || i.rs2 != 0 || i.immediate < 0 || i.immediate > 31 {
         return Err(Refusal::DoesNotFit);
     }
-    Ok(assemble(row, u32::from(i.rd), i.rs1, i.immediate as u32, u32::from(row.funct7)))
+    Ok(assemble(
+        row,
+        u32::from(i.rd),
+        i.rs1,
+        i.immediate as u32,
+        u32::from(row.funct7),
+    ))
 }
 
 pub(super) fn s_type(row: Row, i: &Instruction) -> Result<u32, Refusal>

@@ -14,15 +14,11 @@ pub(super) fn cut(z: i64, width: u32) -> Result<u32, Refusal>
     requires { (0 < width) × (width < 32) }
     ensures { MatchResult result (λ x. (x < 2 ^ width) × (signed_of width x ≡ z)) (λ e. (number_of e ≡ 10) × (Within width z → ⊥)) }
 {
-    let half: u32 = 1 << (width - 1);
-    if z < -i64::from(half) || z >= i64::from(half) {
+    let half = i64::from(1u32 << (width - 1));
+    if z < -half || z >= half {
         return Err(Refusal::DoesNotFit);
     }
-    if z < 0 {
-        Ok(half + (z + i64::from(half)) as u32)
-    } else {
-        Ok(z as u32)
-    }
+    Ok(z.rem_euclid(2 * half) as u32)
 }
 
 // The same of an offset, which is even.

@@ -1,1 +1,1 @@
-mod LaneBytes
+pub mod LaneBytes

@@ -2,7 +2,7 @@ ghost use Rattle.std.specs.Prelude.{◌≡◌};
 ghost use Rattle.alu.specs.Comparisons.{compared};
 
 /// A comparison of two words, by which a branch is taken.
-#[derive(Clone, Copy)]
+#[derive(Clone, Copy, PartialEq, Eq, Debug)]
 pub enum Comparison {
     /// BEQ: they are equal.
     Equal,

@@ -5,7 +5,7 @@ ghost use Rattle.bits.specs.Sign.{signed_of};
 use bits::{field, sign_extend};
 
 /// A load of a byte, a half or a word.
-#[derive(Clone, Copy)]
+#[derive(Clone, Copy, PartialEq, Eq, Debug)]
 pub enum Load {
     /// LB: a byte, sign-extended.
     Byte,

@@ -1,8 +1,9 @@
-ghost use Rattle.std.specs.Prelude.{◌≡◌, ℕ, Ok, MatchResult};
+ghost use Rattle.std.specs.Prelude.{◌≡◌, Ok, MatchResult};
 ghost use Rattle.bits.specs.Field.{field};
 ghost use Rattle.isa.specs.Reading.{Reads};
 ghost use Rattle.isa.specs.Refusals.{number_of};
 ghost use Rattle.isa.specs.Table.{Selects, row_of};
+ghost use Rattle.decode.specs.Classes.{Names, OnlyMnemonic};
 ghost use Rattle.isa.specs.declared.mnemonic.Format.TheVariants.{Register, Immediate, Store, Branch};
 
 use super::formats::{i_type, shift_type};
@@ -50,8 +51,8 @@ pub(super) fn comp_immediate(word: u32, funct3: u32, funct7: u32) -> Result<Inst
 
 // The mnemonic of the class LD.
 pub(super) fn load(funct3: u32) -> Result<Mnemonic, Refusal>
-    ensures only { (m : Mnemonic) (g : ℕ) → Selects m 0b0000011 funct3 g → result ≡ Ok m }
-    ensures names { MatchResult result (λ m. ((g : ℕ) → Selects m 0b0000011 funct3 g) × ((row_of m).format ≡ Immediate)) (λ e. number_of e ≡ 3) }
+    ensures only { OnlyMnemonic 0b0000011 funct3 result }
+    ensures names { Names 0b0000011 funct3 Immediate result }
 {
     match funct3 {
         0b000 => Ok(Mnemonic::Lb),
@@ -65,8 +66,8 @@ pub(super) fn load(funct3: u32) -> Result<Mnemonic, Refusal>
 
 // The mnemonic of the class ST.
 pub(super) fn store(funct3: u32) -> Result<Mnemonic, Refusal>
-    ensures only { (m : Mnemonic) (g : ℕ) → Selects m 0b0100011 funct3 g → result ≡ Ok m }
-    ensures names { MatchResult result (λ m. ((g : ℕ) → Selects m 0b0100011 funct3 g) × ((row_of m).format ≡ Store)) (λ e. number_of e ≡ 3) }
+    ensures only { OnlyMnemonic 0b0100011 funct3 result }
+    ensures names { Names 0b0100011 funct3 Store result }
 {
     match funct3 {
         0b000 => Ok(Mnemonic::Sb),
@@ -78,8 +79,8 @@ pub(super) fn store(funct3: u32) -> Result<Mnemonic, Refusal>
 
 // The mnemonic of the class BR.
 pub(super) fn branch(funct3: u32) -> Result<Mnemonic, Refusal>
-    ensures only { (m : Mnemonic) (g : ℕ) → Selects m 0b1100011 funct3 g → result ≡ Ok m }
-    ensures names { MatchResult result (λ m. ((g : ℕ) → Selects m 0b1100011 funct3 g) × ((row_of m).format ≡ Branch)) (λ e. number_of e ≡ 3) }
+    ensures only { OnlyMnemonic 0b1100011 funct3 result }
+    ensures names { Names 0b1100011 funct3 Branch result }
 {
     match funct3 {
         0b000 => Ok(Mnemonic::Beq),

@@ -114,13 +114,6 @@ below_b w = omega arith
 pub below_j : (w : ℕ) → imm_j w < 2 ^ 21
 below_j w = omega arith
 
--- the offset of a store, taken apart and put together
-pub store_there : (w x : ℕ) → imm_s w ≡ x → (field 7 5 w ≡ field 0 5 x) × (field 25 7 w ≡ field 5 7 x)
-store_there w x e = (omega arith, omega arith)
-
-pub store_back : (w x : ℕ) → x < 2 ^ 12 → field 7 5 w ≡ field 0 5 x → field 25 7 w ≡ field 5 7 x → imm_s w ≡ x
-store_back w x fits low high = omega arith
-
 -- the bits of the immediate, from the instruction: imm are those of the format f in a word
 pub same_offset : (f : Format) (width : ℕ) (imm : ℕ → ℕ) → 0 < width → ((w : ℕ) → imm w < 2 ^ width) → ((w : ℕ) → immediate_of f w ≡ signed_of width (imm w)) → (i : Instruction) (v x : ℕ) → i ≡ in_format f i.mnemonic v → x < 2 ^ width → signed_of width x ≡ i.immediate → imm v ≡ x
 same_offset f width imm some below is i v x whole fits value =

@@ -1,157 +1,40 @@
 -- The search of the table against the relation of words and instructions.
-use Rattle.std.proofs.Common.{◌≡◌, ℕ, Bool, true, false, cond, List, [], ◌∷◌, Some, None, Option, sym, refl, ap, ◌∙◌, subst, arith}
-use Rattle.std.proofs.lemmas.Bool.{eqb-true, eq-eqb, and_parts, and_from}
+use Rattle.std.proofs.Common.{◌≡◌, ℕ, Bool, true, not, rules, List, [], ◌∷◌, Some, None, Option, sym, refl, ap, ◌∙◌, subst, arith, Ok, Err, Result, MatchResult}
+use Rattle.std.specs.Result.{result_ok}
+use Rattle.isa.specs.declared.refusal.Refusal.{Refusal}
+use Rattle.isa.specs.Refusals.{number_of}
+use Rattle.std.proofs.lemmas.Bool.{not-true, both_ways}
+use Rattle.std.proofs.lemmas.Bool.Decides.{nat_tests}
+use Rattle.std.specs.List.{find, list_all}
+use Rattle.isa.proofs.Selecting.{agrees_holds, holds_agrees, every}
 use Rattle.bits.specs.Field.{field}
 use Rattle.isa.specs.declared.instruction.Instruction.{Instruction}
-use Rattle.isa.specs.declared.mnemonic.Format.{Format}
-use Rattle.isa.specs.declared.mnemonic.Format.TheVariants.{Register, Immediate, Shift, Store, Branch, Upper, Jump}
 use Rattle.isa.specs.declared.mnemonic.Mnemonic.{Mnemonic}
-use Rattle.isa.specs.declared.mnemonic.Mnemonic.TheVariants.{Add, Sub, Sll, Slt, Sltu, Xor, Srl, Sra, Or, And}
-use Rattle.isa.specs.declared.mnemonic.Mnemonic.TheVariants.{Addi, Slli, Slti, Sltiu, Xori, Srli, Srai, Ori, Andi}
-use Rattle.isa.specs.declared.mnemonic.Mnemonic.TheVariants.{Lui, Auipc, Lb, Lh, Lw, Lbu, Lhu, Sb, Sh, Sw, Jal, Jalr}
-use Rattle.isa.specs.declared.mnemonic.Mnemonic.TheVariants.{Beq, Bne, Blt, Bge, Bltu, Bgeu}
-use Rattle.isa.specs.declared.table.Row.{Row}
-use Rattle.isa.specs.Decoding.{agrees, selects, mnemonics, chosen, read_as, reading_of}
+use Rattle.isa.specs.Decoding.{selects, mnemonics, chosen, read_as, reading_of}
 use Rattle.isa.specs.Reading.{Reads, in_format}
-use Rattle.isa.specs.Table.{row_of, Agrees}
+use Rattle.isa.specs.Table.{row_of}
 use Rattle.actions.specs.Actions.{class_of, action_by, FoundAsRead}
 
--- the test says what the relation says
-agrees_holds : (t : Format) (r : Row) (o f g : ℕ) → agrees t r o f g ≡ true → Agrees t r o f g
-agrees_holds Register r o f g e =
-    let p = and_parts _ _ e in
-    let q = and_parts _ _ p.1 in
-    (eqb-true o r.opcode p.0, eqb-true f r.funct3 q.0, eqb-true g r.funct7 q.1)
-agrees_holds Immediate r o f g e = let p = and_parts _ _ e in (eqb-true o r.opcode p.0, eqb-true f r.funct3 p.1)
-agrees_holds Shift r o f g e =
-    let p = and_parts _ _ e in
-    let q = and_parts _ _ p.1 in
-    (eqb-true o r.opcode p.0, eqb-true f r.funct3 q.0, eqb-true g r.funct7 q.1)
-agrees_holds Store r o f g e = let p = and_parts _ _ e in (eqb-true o r.opcode p.0, eqb-true f r.funct3 p.1)
-agrees_holds Branch r o f g e = let p = and_parts _ _ e in (eqb-true o r.opcode p.0, eqb-true f r.funct3 p.1)
-agrees_holds Upper r o f g e = eqb-true o r.opcode e
-agrees_holds Jump r o f g e = eqb-true o r.opcode e
+-- what a search finds passes the test, and where it finds nothing, nothing passes
+found_passes : (p : Mnemonic → Bool) (ms : List Mnemonic) (m : Mnemonic) → find p ms ≡ Some m → p m ≡ true
+found_passes p [] m e = cc
+found_passes p (n ∷ ms) m e = grind (arith, nat_tests, found_passes p ms m)
 
-holds_agrees : (t : Format) (r : Row) (o f g : ℕ) → Agrees t r o f g → agrees t r o f g ≡ true
-holds_agrees Register r o f g h = and_from _ _ (eq-eqb o r.opcode h.0) (and_from _ _ (eq-eqb f r.funct3 h.1) (eq-eqb g r.funct7 h.2))
-holds_agrees Immediate r o f g h = and_from _ _ (eq-eqb o r.opcode h.0) (eq-eqb f r.funct3 h.1)
-holds_agrees Shift r o f g h = and_from _ _ (eq-eqb o r.opcode h.0) (and_from _ _ (eq-eqb f r.funct3 h.1) (eq-eqb g r.funct7 h.2))
-holds_agrees Store r o f g h = and_from _ _ (eq-eqb o r.opcode h.0) (eq-eqb f r.funct3 h.1)
-holds_agrees Branch r o f g h = and_from _ _ (eq-eqb o r.opcode h.0) (eq-eqb f r.funct3 h.1)
-holds_agrees Upper r o f g h = eq-eqb o r.opcode h
-holds_agrees Jump r o f g h = eq-eqb o r.opcode h
-
--- what is chosen is selected
-chosen_selects : (ms : List Mnemonic) (w : ℕ) (m : Mnemonic) → chosen ms w ≡ Some m → selects m w ≡ true
-chosen_selects [] w m e = absurd (let z : ◌≡◌ {A = ℕ} 0 1 = cc in omega arith)
-chosen_selects (n ∷ ms) w m e = go (selects n w) refl e (chosen_selects ms w m)
-  where
-    go : (b : Bool) → selects n w ≡ b → cond b (Some n) (chosen ms w) ≡ Some m → (chosen ms w ≡ Some m → selects m w ≡ true) → selects m w ≡ true
-    go true t h later = let same : n ≡ m = cc in subst (λ (x : Mnemonic). selects x w ≡ true) same t
-    go false t h later = later h
-
--- what holds of each of some mnemonics
-abbrev Each : (Mnemonic → Type 0) → List Mnemonic → Type 0
-Each P [] = Unit {0}
-Each P (m ∷ ms) = P m × Each P ms
-
--- where none is chosen, none is selected
-none_selected : (ms : List Mnemonic) (w : ℕ) → chosen ms w ≡ None → Each (λ m. selects m w ≡ false) ms
-none_selected [] w e = tt
-none_selected (n ∷ ms) w e = go (selects n w) refl e (none_selected ms w)
-  where
-    go : (b : Bool) → selects n w ≡ b → cond b (Some n) (chosen ms w) ≡ None →
-        (chosen ms w ≡ None → Each (λ m. selects m w ≡ false) ms) → Each (λ m. selects m w ≡ false) (n ∷ ms)
-    go true t h later = absurd (let z : ◌≡◌ {A = ℕ} 0 1 = cc in omega arith)
-    go false t h later = (t, later h)
-
--- the list has every mnemonic
-every : (P : Mnemonic → Type 0) → Each P mnemonics → (m : Mnemonic) → P m
-every P h Add = h.0
-every P h Sub = h.1.0
-every P h Sll = h.1.1.0
-every P h Slt = h.1.1.1.0
-every P h Sltu = h.1.1.1.1.0
-every P h Xor = h.1.1.1.1.1.0
-every P h Srl = h.1.1.1.1.1.1.0
-every P h Sra = h.1.1.1.1.1.1.1.0
-every P h Or = h.1.1.1.1.1.1.1.1.0
-every P h And = h.1.1.1.1.1.1.1.1.1.0
-every P h Addi = h.1.1.1.1.1.1.1.1.1.1.0
-every P h Slli = h.1.1.1.1.1.1.1.1.1.1.1.0
-every P h Slti = h.1.1.1.1.1.1.1.1.1.1.1.1.0
-every P h Sltiu = h.1.1.1.1.1.1.1.1.1.1.1.1.1.0
-every P h Xori = h.1.1.1.1.1.1.1.1.1.1.1.1.1.1.0
-every P h Srli = h.1.1.1.1.1.1.1.1.1.1.1.1.1.1.1.0
-every P h Srai = h.1.1.1.1.1.1.1.1.1.1.1.1.1.1.1.1.0
-every P h Ori = h.1.1.1.1.1.1.1.1.1.1.1.1.1.1.1.1.1.0
-every P h Andi = h.1.1.1.1.1.1.1.1.1.1.1.1.1.1.1.1.1.1.0
-every P h Lui = h.1.1.1.1.1.1.1.1.1.1.1.1.1.1.1.1.1.1.1.0
-every P h Auipc = h.1.1.1.1.1.1.1.1.1.1.1.1.1.1.1.1.1.1.1.1.0
-every P h Lb = h.1.1.1.1.1.1.1.1.1.1.1.1.1.1.1.1.1.1.1.1.1.0
-every P h Lh = h.1.1.1.1.1.1.1.1.1.1.1.1.1.1.1.1.1.1.1.1.1.1.0
-every P h Lw = h.1.1.1.1.1.1.1.1.1.1.1.1.1.1.1.1.1.1.1.1.1.1.1.0
-every P h Lbu = h.1.1.1.1.1.1.1.1.1.1.1.1.1.1.1.1.1.1.1.1.1.1.1.1.0
-every P h Lhu = h.1.1.1.1.1.1.1.1.1.1.1.1.1.1.1.1.1.1.1.1.1.1.1.1.1.0
-every P h Sb = h.1.1.1.1.1.1.1.1.1.1.1.1.1.1.1.1.1.1.1.1.1.1.1.1.1.1.0
-every P h Sh = h.1.1.1.1.1.1.1.1.1.1.1.1.1.1.1.1.1.1.1.1.1.1.1.1.1.1.1.0
-every P h Sw = h.1.1.1.1.1.1.1.1.1.1.1.1.1.1.1.1.1.1.1.1.1.1.1.1.1.1.1.1.0
-every P h Jal = h.1.1.1.1.1.1.1.1.1.1.1.1.1.1.1.1.1.1.1.1.1.1.1.1.1.1.1.1.1.0
-every P h Jalr = h.1.1.1.1.1.1.1.1.1.1.1.1.1.1.1.1.1.1.1.1.1.1.1.1.1.1.1.1.1.1.0
-every P h Beq = h.1.1.1.1.1.1.1.1.1.1.1.1.1.1.1.1.1.1.1.1.1.1.1.1.1.1.1.1.1.1.1.0
-every P h Bne = h.1.1.1.1.1.1.1.1.1.1.1.1.1.1.1.1.1.1.1.1.1.1.1.1.1.1.1.1.1.1.1.1.0
-every P h Blt = h.1.1.1.1.1.1.1.1.1.1.1.1.1.1.1.1.1.1.1.1.1.1.1.1.1.1.1.1.1.1.1.1.1.0
-every P h Bge = h.1.1.1.1.1.1.1.1.1.1.1.1.1.1.1.1.1.1.1.1.1.1.1.1.1.1.1.1.1.1.1.1.1.1.0
-every P h Bltu = h.1.1.1.1.1.1.1.1.1.1.1.1.1.1.1.1.1.1.1.1.1.1.1.1.1.1.1.1.1.1.1.1.1.1.1.0
-every P h Bgeu = h.1.1.1.1.1.1.1.1.1.1.1.1.1.1.1.1.1.1.1.1.1.1.1.1.1.1.1.1.1.1.1.1.1.1.1.1.0
+none_passes : (p : Mnemonic → Bool) (ms : List Mnemonic) → find p ms ≡ None → list_all (λ m. not (p m)) ms ≡ true
+none_passes p [] e = refl
+none_passes p (n ∷ ms) e = grind (arith, nat_tests, none_passes p ms)
 
 -- an instruction does what its class says
 by_class : (m : Mnemonic) (i : Instruction) → class_of (action_by m i) ≡ (row_of m).class
-by_class Add i = refl
-by_class Sub i = refl
-by_class Sll i = refl
-by_class Slt i = refl
-by_class Sltu i = refl
-by_class Xor i = refl
-by_class Srl i = refl
-by_class Sra i = refl
-by_class Or i = refl
-by_class And i = refl
-by_class Addi i = refl
-by_class Slli i = refl
-by_class Slti i = refl
-by_class Sltiu i = refl
-by_class Xori i = refl
-by_class Srli i = refl
-by_class Srai i = refl
-by_class Ori i = refl
-by_class Andi i = refl
-by_class Lui i = refl
-by_class Auipc i = refl
-by_class Lb i = refl
-by_class Lh i = refl
-by_class Lw i = refl
-by_class Lbu i = refl
-by_class Lhu i = refl
-by_class Sb i = refl
-by_class Sh i = refl
-by_class Sw i = refl
-by_class Jal i = refl
-by_class Jalr i = refl
-by_class Beq i = refl
-by_class Bne i = refl
-by_class Blt i = refl
-by_class Bge i = refl
-by_class Bltu i = refl
-by_class Bgeu i = refl
+by_class m i = search rules
 
 module _ (w : ℕ) where
   found_reads : (x : Option Mnemonic) → chosen mnemonics w ≡ x → (i : Instruction) → read_as x w ≡ Some i → Reads w i
-  found_reads None e i h = absurd (let z : ◌≡◌ {A = ℕ} 0 1 = cc in omega arith)
+  found_reads None e i h = cc
   found_reads (Some m) e i h =
       let same : in_format (row_of m).format m w ≡ i = cc in
       subst (Reads w) same (record {
-        selected = agrees_holds (row_of m).format (row_of m) (field 0 7 w) (field 12 3 w) (field 25 7 w) (chosen_selects mnemonics w m e);
+        selected = agrees_holds (row_of m).format (row_of m) (field 0 7 w) (field 12 3 w) (field 25 7 w) (found_passes (λ n. selects n w) mnemonics m e);
         operands = refl;
       })
 
@@ -160,12 +43,12 @@ module _ (w : ℕ) where
   readings i h = found_reads (chosen mnemonics w) refl i h
 
   found_none : (x : Option Mnemonic) → chosen mnemonics w ≡ x → read_as x w ≡ None → (i : Instruction) → Reads w i → ⊥
-  found_none (Some m) e h i r = absurd (let z : ◌≡◌ {A = ℕ} 0 1 = cc in omega arith)
+  found_none (Some m) e h i r = cc
   found_none None e h i r =
       let m = i.mnemonic in
-      let no : selects m w ≡ false = every (λ m. selects m w ≡ false) (none_selected mnemonics w e) m in
+      let no : not (selects m w) ≡ true = every (λ n. not (selects n w)) (none_passes (λ n. selects n w) mnemonics e) m in
       let is : selects m w ≡ true = holds_agrees (row_of m).format (row_of m) (field 0 7 w) (field 12 3 w) (field 25 7 w) r.selected in
-      let z : ◌≡◌ {A = ℕ} 0 1 = cc in omega arith
+      both_ways (selects m w) (not-true (selects m w) no) is
 
   none_reads : reading_of w ≡ None → (i : Instruction) → Reads w i → ⊥
   unfolding reading_of
@@ -188,3 +71,12 @@ module _ (w : ℕ) where
 
   pub not_read : ((i : Instruction) → Reads w i → ⊥) → (reading_of w ≡ None) × FoundAsRead w
   not_read no-reading = (not_found no-reading (reading_of w) refl, record { found = λ i h. absurd (no-reading i h); reads = readings; class = λ i. by_class i.mnemonic i })
+
+  -- what the decoder answers is what the search finds
+  pub found_word : (r : Result Instruction Refusal) → ((i : Instruction) → Reads w i → r ≡ Ok i) → MatchResult r (λ i. Reads w i) (λ e. (number_of e ≡ 3) × ((i : Instruction) → Reads w i → ⊥)) → result_ok r ≡ reading_of w
+  found_word (Ok j) only h = sym (found_as_read j h (λ i r. let e = only i r in cc)).0
+  found_word (Err e) only h = sym (not_read h.1).0
+
+  pub law_of : (r : Result Instruction Refusal) → ((i : Instruction) → Reads w i → r ≡ Ok i) → MatchResult r (λ i. Reads w i) (λ e. (number_of e ≡ 3) × ((i : Instruction) → Reads w i → ⊥)) → FoundAsRead w
+  law_of (Ok j) only h = (found_as_read j h (λ i r. let e = only i r in cc)).1
+  law_of (Err e) only h = (not_read h.1).1

@@ -2,7 +2,7 @@ use alu::{Comparison, Load, Operation, Store};
 
 /// What an instruction does, by its class: the operation of the arithmetic, the numbers of its registers, and its immediate
 /// as a word, that is, modulo 2^32.
-#[derive(Clone, Copy)]
+#[derive(Clone, Copy, PartialEq, Eq, Debug)]
 pub enum Action {
     /// rd ← rs1 op rs2.
     Comp {

@@ -27,221 +27,84 @@ fn by_mnemonic(instruction: Instruction) -> Action
         immediate,
     } = instruction;
     let immediate = word_of(immediate);
+    let comp = |operation| Action::Comp {
+        operation,
+        rd,
+        rs1,
+        rs2,
+    };
+    let comp_immediate = |operation| Action::CompI {
+        operation,
+        rd,
+        rs1,
+        immediate,
+    };
+    let load = |load| Action::Ld {
+        load,
+        rd,
+        rs1,
+        immediate,
+    };
+    let store = |store| Action::St {
+        store,
+        rs1,
+        rs2,
+        immediate,
+    };
+    let branch = |comparison| Action::Br {
+        comparison,
+        rs1,
+        rs2,
+        immediate,
+    };
     match mnemonic {
-        Mnemonic::Add => Action::Comp {
-            operation: Operation::Add,
-            rd,
-            rs1,
-            rs2,
-        },
-        Mnemonic::Sub => Action::Comp {
-            operation: Operation::Sub,
-            rd,
-            rs1,
-            rs2,
-        },
-        Mnemonic::Sll => Action::Comp {
-            operation: Operation::Sll,
-            rd,
-            rs1,
-            rs2,
-        },
-        Mnemonic::Slt => Action::Comp {
-            operation: Operation::Slt,
-            rd,
-            rs1,
-            rs2,
-        },
-        Mnemonic::Sltu => Action::Comp {
-            operation: Operation::Sltu,
-            rd,
-            rs1,
-            rs2,
-        },
-        Mnemonic::Xor => Action::Comp {
-            operation: Operation::Xor,
-            rd,
-            rs1,
-            rs2,
-        },
-        Mnemonic::Srl => Action::Comp {
-            operation: Operation::Srl,
-            rd,
-            rs1,
-            rs2,
-        },
-        Mnemonic::Sra => Action::Comp {
-            operation: Operation::Sra,
-            rd,
-            rs1,
-            rs2,
-        },
-        Mnemonic::Or => Action::Comp {
-            operation: Operation::Or,
-            rd,
-            rs1,
-            rs2,
-        },
-        Mnemonic::And => Action::Comp {
-            operation: Operation::And,
-            rd,
-            rs1,
-            rs2,
-        },
-        Mnemonic::Addi => Action::CompI {
-            operation: Operation::Add,
-            rd,
-            rs1,
-            immediate,
-        },
-        Mnemonic::Slli => Action::CompI {
-            operation: Operation::Sll,
-            rd,
-            rs1,
-            immediate,
-        },
-        Mnemonic::Slti => Action::CompI {
-            operation: Operation::Slt,
-            rd,
-            rs1,
-            immediate,
-        },
-        Mnemonic::Sltiu => Action::CompI {
-            operation: Operation::Sltu,
-            rd,
-            rs1,
-            immediate,
-        },
-        Mnemonic::Xori => Action::CompI {
-            operation: Operation::Xor,
-            rd,
-            rs1,
-            immediate,
-        },
-        Mnemonic::Srli => Action::CompI {
-            operation: Operation::Srl,
-            rd,
-            rs1,
-            immediate,
-        },
-        Mnemonic::Srai => Action::CompI {
-            operation: Operation::Sra,
-            rd,
-            rs1,
-            immediate,
-        },
-        Mnemonic::Ori => Action::CompI {
-            operation: Operation::Or,
-            rd,
-            rs1,
-            immediate,
-        },
-        Mnemonic::Andi => Action::CompI {
-            operation: Operation::And,
-            rd,
-            rs1,
-            immediate,
-        },
+        Mnemonic::Add => comp(Operation::Add),
+        Mnemonic::Sub => comp(Operation::Sub),
+        Mnemonic::Sll => comp(Operation::Sll),
+        Mnemonic::Slt => comp(Operation::Slt),
+        Mnemonic::Sltu => comp(Operation::Sltu),
+        Mnemonic::Xor => comp(Operation::Xor),
+        Mnemonic::Srl => comp(Operation::Srl),
+        Mnemonic::Sra => comp(Operation::Sra),
+        Mnemonic::Or => comp(Operation::Or),
+        Mnemonic::And => comp(Operation::And),
+        Mnemonic::Addi => comp_immediate(Operation::Add),
+        Mnemonic::Slli => comp_immediate(Operation::Sll),
+        Mnemonic::Slti => comp_immediate(Operation::Slt),
+        Mnemonic::Sltiu => comp_immediate(Operation::Sltu),
+        Mnemonic::Xori => comp_immediate(Operation::Xor),
+        Mnemonic::Srli => comp_immediate(Operation::Srl),
+        Mnemonic::Srai => comp_immediate(Operation::Sra),
+        Mnemonic::Ori => comp_immediate(Operation::Or),
+        Mnemonic::Andi => comp_immediate(Operation::And),
         Mnemonic::Lui => Action::Lui { rd, immediate },
         Mnemonic::Auipc => Action::Auipc { rd, immediate },
-        Mnemonic::Lb => Action::Ld {
-            load: Load::Byte,
-            rd,
-            rs1,
-            immediate,
-        },
-        Mnemonic::Lh => Action::Ld {
-            load: Load::Half,
-            rd,
-            rs1,
-            immediate,
-        },
-        Mnemonic::Lw => Action::Ld {
-            load: Load::Word,
-            rd,
-            rs1,
-            immediate,
-        },
-        Mnemonic::Lbu => Action::Ld {
-            load: Load::ByteUnsigned,
-            rd,
-            rs1,
-            immediate,
-        },
-        Mnemonic::Lhu => Action::Ld {
-            load: Load::HalfUnsigned,
-            rd,
-            rs1,
-            immediate,
-        },
-        Mnemonic::Sb => Action::St {
-            store: Store::Byte,
-            rs1,
-            rs2,
-            immediate,
-        },
-        Mnemonic::Sh => Action::St {
-            store: Store::Half,
-            rs1,
-            rs2,
-            immediate,
-        },
-        Mnemonic::Sw => Action::St {
-            store: Store::Word,
-            rs1,
-            rs2,
-            immediate,
-        },
+        Mnemonic::Lb => load(Load::Byte),
+        Mnemonic::Lh => load(Load::Half),
+        Mnemonic::Lw => load(Load::Word),
+        Mnemonic::Lbu => load(Load::ByteUnsigned),
+        Mnemonic::Lhu => load(Load::HalfUnsigned),
+        Mnemonic::Sb => store(Store::Byte),
+        Mnemonic::Sh => store(Store::Half),
+        Mnemonic::Sw => store(Store::Word),
         Mnemonic::Jal => Action::Jal { rd, immediate },
         Mnemonic::Jalr => Action::Jalr { rd, rs1, immediate },
-        Mnemonic::Beq => Action::Br {
-            comparison: Comparison::Equal,
-            rs1,
-            rs2,
-            immediate,
-        },
-        Mnemonic::Bne => Action::Br {
-            comparison: Comparison::NotEqual,
-            rs1,
-            rs2,
-            immediate,
-        },
-        Mnemonic::Blt => Action::Br {
-            comparison: Comparison::Less,
-            rs1,
-            rs2,
-            immediate,
-        },
-        Mnemonic::Bge => Action::Br {
-            comparison: Comparison::GreaterEqual,
-            rs1,
-            rs2,
-            immediate,
-        },
-        Mnemonic::Bltu => Action::Br {
-            comparison: Comparison::LessUnsigned,
-            rs1,
-            rs2,
-            immediate,
-        },
-        Mnemonic::Bgeu => Action::Br {
-            comparison: Comparison::GreaterEqualUnsigned,
-            rs1,
-            rs2,
-            immediate,
-        },
+        Mnemonic::Beq => branch(Comparison::Equal),
+        Mnemonic::Bne => branch(Comparison::NotEqual),
+        Mnemonic::Blt => branch(Comparison::Less),
+        Mnemonic::Bge => branch(Comparison::GreaterEqual),
+        Mnemonic::Bltu => branch(Comparison::LessUnsigned),
+        Mnemonic::Bgeu => branch(Comparison::GreaterEqualUnsigned),
     }
 }
 
 // The instruction that `word` is, or none.
+#[tactic(auto, using(crate::proofs::Readings::found_word))]
 fn reading(word: u32) -> Option<Instruction>
     ensures value { result ≡ reading_of word }
     ensures law { FoundAsRead word }
 {
-    match decode(word) {
-        Ok(instruction) => Some(instruction),
-        Err(_) => None,
-    }
+    decode(word).ok()
 }
 
 /// What `word` does as an instruction; none if it is no instruction.
@@ -249,8 +112,5 @@ pub fn action_of(word: u32) -> Option<Action>
     ensures value { result ≡ action_of_word word }
     ensures law { FoundAsRead word }
 {
-    match reading(word) {
-        Some(instruction) => Some(by_mnemonic(instruction)),
-        None => None,
-    }
+    reading(word).map(by_mnemonic)
 }

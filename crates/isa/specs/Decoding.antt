@@ -1,5 +1,6 @@
 -- Which instruction a word is, found by a search of the table. `Reading` says the same as a relation.
-use Rattle.std.specs.Prelude.{ℕ, Bool, cond, ◌&&◌, List, [], ◌∷◌, Some, None, Option, ◌==◌}
+use Rattle.std.specs.Prelude.{ℕ, Bool, ◌&&◌, List, [], ◌∷◌, Some, None, Option, ◌==◌}
+use Rattle.std.specs.List.{find}
 use Rattle.bits.specs.Field.{field}
 use Rattle.isa.specs.declared.instruction.Instruction.{Instruction}
 use Rattle.isa.specs.declared.mnemonic.Format.{Format}
@@ -37,8 +38,7 @@ mnemonics =
 
 -- the first of some mnemonics that the word's codes select
 abbrev pub chosen : List Mnemonic → ℕ → Option Mnemonic
-chosen [] w = None
-chosen (m ∷ ms) w = cond (selects m w) (Some m) (chosen ms w)
+chosen ms w = find (λ m. selects m w) ms
 
 abbrev pub read_as : Option Mnemonic → ℕ → Option Instruction
 read_as None w = None

@@ -6,18 +6,11 @@ ghost use Rattle.std.specs.Prelude.{◌≡◌, length};
 ghost use Rattle.vectors.specs.Examples.{Every};
 ghost use Rattle.vectors.specs.Values.{table};
 
-// The examples of the table, each of which holds.
-fn table_holds() -> usize
-    ensures all { Every table }
-    ensures count { result ≡ length table }
-{
-    13
-}
-
 /// How many worked examples there are. That the definitions give each of them is what its contract says.
+#[tactic(auto, using(crate::proofs::Tests::every_value))]
 pub fn known_values() -> usize
     ensures all { Every table }
     ensures count { result ≡ length table }
 {
-    table_holds()
+    13
 }

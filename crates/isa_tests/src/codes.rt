@@ -1,15 +1,10 @@
 use decode::decode;
 use encode::{encode, encode_decoded};
-use isa::{Instruction, Mnemonic};
-use std::test::Fail;
+use isa::{Instruction, Mnemonic, Refusal};
 
-/// The mnemonic that a word reads as; a refusal has to have the number 3.
-fn mnemonic(word: u32) -> Result<Option<Mnemonic>, Fail> {
-    match decode(word) {
-        Ok(i) => Ok(Some(i.mnemonic)),
-        Err(e) if e.number() == 3 => Ok(None),
-        Err(_) => Err(Fail::new("refused with another number than 3")),
-    }
+/// The mnemonic that a word reads as.
+fn mnemonic(word: u32) -> Result<Mnemonic, Refusal> {
+    decode(word).map(|i| i.mnemonic)
 }
 
 /// The word of these codes, with all other bits 0.
@@ -51,44 +46,50 @@ const COMPI: [Mnemonic; 8] = [
 ];
 
 /// What COMP reads: each operation under funct7 0000000, and SUB and SRA under 0100000.
-fn comp(funct3: u32, funct7: u32) -> Option<Mnemonic> {
+fn comp(funct3: u32, funct7: u32) -> Result<Mnemonic, Refusal> {
     match (funct3, funct7) {
-        (0, 32) => Some(Mnemonic::Sub),
-        (5, 32) => Some(Mnemonic::Sra),
-        (_, 0) => COMP.get(funct3 as usize).copied(),
-        _ => None,
+        (0, 32) => Ok(Mnemonic::Sub),
+        (5, 32) => Ok(Mnemonic::Sra),
+        (_, 0) => COMP
+            .get(funct3 as usize)
+            .copied()
+            .ok_or(Refusal::NoInstruction),
+        _ => Err(Refusal::NoInstruction),
     }
 }
 
 /// What COMPI reads: a shift asks for its funct7, and the others take any.
-fn compi(funct3: u32, funct7: u32) -> Option<Mnemonic> {
+fn compi(funct3: u32, funct7: u32) -> Result<Mnemonic, Refusal> {
     match (funct3, funct7) {
-        (5, 32) => Some(Mnemonic::Srai),
-        (1 | 5, 1..=127) => None,
-        _ => COMPI.get(funct3 as usize).copied(),
+        (5, 32) => Ok(Mnemonic::Srai),
+        (1 | 5, 1..=127) => Err(Refusal::NoInstruction),
+        _ => COMPI
+            .get(funct3 as usize)
+            .copied()
+            .ok_or(Refusal::NoInstruction),
     }
 }
 
 #[test]
-fn every_funct3_and_funct7(rt: HostRuntime) -> Result<(), Fail> {
+fn every_funct3_and_funct7(rt: HostRuntime) {
+    assert_eq!(rt; Refusal::NoInstruction.number(), 3);
     for funct3 in 0..8 {
         for funct7 in 0..128 {
             assert_eq!(rt;
-                mnemonic(word_of(0b0110011, funct3, funct7))?,
+                mnemonic(word_of(0b0110011, funct3, funct7)),
                 comp(funct3, funct7)
             );
             assert_eq!(rt;
-                mnemonic(word_of(0b0010011, funct3, funct7))?,
+                mnemonic(word_of(0b0010011, funct3, funct7)),
                 compi(funct3, funct7)
             );
         }
     }
-    Ok(())
 }
 
 /// Words outside the base: FENCE, ECALL, EBREAK, a CSR instruction, a multiplication, a compressed word, all zeros and all ones.
 #[test]
-fn no_instructions(rt: HostRuntime) -> Result<(), Fail> {
+fn no_instructions(rt: HostRuntime) {
     for word in [
         0x0ff0_000f,
         0x0000_0073,
@@ -100,9 +101,8 @@ fn no_instructions(rt: HostRuntime) -> Result<(), Fail> {
         0xffff_ffff,
         0x2010_5093,
     ] {
-        assert_eq!(rt; mnemonic(word)?, None);
+        assert_eq!(rt; decode(word), Err(Refusal::NoInstruction));
     }
-    Ok(())
 }
 
 /// Every word that is read is written back: some thousand words over all bits.
@@ -121,35 +121,31 @@ fn words_come_back(rt: HostRuntime) {
     assert!(rt; read > 10_000);
 }
 
-/// Whether an instruction with these registers is refused with the number 10.
-fn refuses(mnemonic: Mnemonic, rd: u8, rs1: u8, rs2: u8) -> bool {
-    let i = Instruction {
-        mnemonic,
-        rd,
-        rs1,
-        rs2,
-        immediate: 0,
-    };
-    match encode(&i) {
-        Ok(_) => false,
-        Err(e) => e.number() == 10,
-    }
-}
-
 #[test]
 fn registers(rt: HostRuntime) {
-    assert!(rt; !refuses(Mnemonic::Add, 31, 31, 31));
-    assert!(rt; refuses(Mnemonic::Add, 32, 0, 0));
-    assert!(rt; refuses(Mnemonic::Add, 0, 32, 0));
-    assert!(rt; refuses(Mnemonic::Add, 0, 0, 32));
-    assert!(rt; !refuses(Mnemonic::Addi, 31, 31, 0));
-    assert!(rt; refuses(Mnemonic::Addi, 0, 0, 1));
-    assert!(rt; refuses(Mnemonic::Slli, 0, 0, 1));
-    assert!(rt; !refuses(Mnemonic::Sw, 0, 31, 31));
-    assert!(rt; refuses(Mnemonic::Sw, 1, 0, 0));
-    assert!(rt; refuses(Mnemonic::Beq, 1, 0, 0));
-    assert!(rt; refuses(Mnemonic::Lui, 0, 1, 0));
-    assert!(rt; refuses(Mnemonic::Lui, 0, 0, 1));
-    assert!(rt; refuses(Mnemonic::Jal, 0, 1, 0));
-    assert!(rt; refuses(Mnemonic::Jal, 32, 0, 0));
+    let encoded = |mnemonic, rd, rs1, rs2| {
+        encode(&Instruction {
+            mnemonic,
+            rd,
+            rs1,
+            rs2,
+            immediate: 0,
+        })
+    };
+    let refused = Err(Refusal::DoesNotFit);
+    assert_eq!(rt; Refusal::DoesNotFit.number(), 10);
+    assert!(rt; encoded(Mnemonic::Add, 31, 31, 31).is_ok());
+    assert_eq!(rt; encoded(Mnemonic::Add, 32, 0, 0), refused);
+    assert_eq!(rt; encoded(Mnemonic::Add, 0, 32, 0), refused);
+    assert_eq!(rt; encoded(Mnemonic::Add, 0, 0, 32), refused);
+    assert!(rt; encoded(Mnemonic::Addi, 31, 31, 0).is_ok());
+    assert_eq!(rt; encoded(Mnemonic::Addi, 0, 0, 1), refused);
+    assert_eq!(rt; encoded(Mnemonic::Slli, 0, 0, 1), refused);
+    assert!(rt; encoded(Mnemonic::Sw, 0, 31, 31).is_ok());
+    assert_eq!(rt; encoded(Mnemonic::Sw, 1, 0, 0), refused);
+    assert_eq!(rt; encoded(Mnemonic::Beq, 1, 0, 0), refused);
+    assert_eq!(rt; encoded(Mnemonic::Lui, 0, 1, 0), refused);
+    assert_eq!(rt; encoded(Mnemonic::Lui, 0, 0, 1), refused);
+    assert_eq!(rt; encoded(Mnemonic::Jal, 0, 1, 0), refused);
+    assert_eq!(rt; encoded(Mnemonic::Jal, 32, 0, 0), refused);
 }

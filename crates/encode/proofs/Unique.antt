@@ -15,8 +15,8 @@ use Rattle.bits.specs.Sign.{signed_of}
 use Rattle.bits.proofs.SignExtension.{doubled, top_clear, top_set}
 use Rattle.isa.specs.declared.instruction.Instruction.{Instruction}
 use Rattle.isa.specs.declared.mnemonic.Format.{Format}
-use Rattle.isa.specs.declared.mnemonic.Format.TheVariants.{Store, Branch, Jump}
-use Rattle.isa.specs.Fitting.{Holds, Divides}
+use Rattle.isa.specs.declared.mnemonic.Format.TheVariants.{Store, Branch}
+use Rattle.isa.specs.Fitting.{Divides}
 use Rattle.isa.specs.Immediates.{imm_s, imm_b, imm_j, immediate_of}
 use Rattle.isa.specs.Reading.{rd_of, rs1_of, rs2_of, in_format}
 
@@ -79,31 +79,9 @@ even_bits width some x z fits e even =
     (λ h. let above : suc (2 ^ width - suc x) % 2 ≡ 0 = rw h.1 at even in omega arith)
     (by_sign width some x z fits e)
 
-pub even_cut : (r : Result ℕ Refusal) (width : ℕ) (z : ℤ) → 0 < width → Divides 2 z → MatchResult r (λ x. (x < 2 ^ width) × (signed_of width x ≡ z)) (λ e. (number_of e ≡ 10) × (Within width z → ⊥)) → MatchResult r (λ x. (x < 2 ^ width) × (x % 2 ≡ 0) × (signed_of width x ≡ z)) (λ e. (number_of e ≡ 10) × (Within width z × Divides 2 z → ⊥))
-even_cut (Ok x) width z some even h = (h.0, even_bits width some x z h.0 h.1 even, h.1)
+pub even_cut : (r : Result ℕ Refusal) (width : ℕ) (z : ℤ) → 0 < width → Divides 2 z → MatchResult r (λ x. (x < 2 ^ width) × (signed_of width x ≡ z) × Within width z) (λ e. (number_of e ≡ 10) × (Within width z → ⊥)) → MatchResult r (λ x. (x < 2 ^ width) × (signed_of width x ≡ z) × Within width z × (x % 2 ≡ 0) × Divides 2 z) (λ e. (number_of e ≡ 10) × (Within width z × Divides 2 z → ⊥))
+even_cut (Ok x) width z some even h = (h.0, h.1, h.2, even_bits width some x z h.0 h.1 even, even)
 even_cut (Err e) width z some even h = (h.0, λ p. h.1 p.0)
-
--- so it is in the range of its format
-pub holds_twelve : (x : ℕ) (z : ℤ) → x < 2 ^ 12 → signed_of 12 x ≡ z → Holds Store z
-holds_twelve x z fits e =
-    ⊎_elim
-    (λ l. rw l.1 (omega (arith, ints), omega (arith, ints)))
-    (λ h. rw h.1 (omega (arith, ints), omega (arith, ints)))
-    (by_sign 12 (omega arith) x z fits e)
-
-pub holds_branch : (x : ℕ) (z : ℤ) → x < 2 ^ 13 → x % 2 ≡ 0 → signed_of 13 x ≡ z → Holds Branch z
-holds_branch x z fits even e =
-    ⊎_elim
-    (λ l. rw l.1 ((omega (arith, ints), omega (arith, ints)), even))
-    (λ h. rw h.1 ((omega (arith, ints), omega (arith, ints)), omega arith))
-    (by_sign 13 (omega arith) x z fits e)
-
-pub holds_jump : (x : ℕ) (z : ℤ) → x < 2 ^ 21 → x % 2 ≡ 0 → signed_of 21 x ≡ z → Holds Jump z
-holds_jump x z fits even e =
-    ⊎_elim
-    (λ l. rw l.1 ((omega (arith, ints), omega (arith, ints)), even))
-    (λ h. rw h.1 ((omega (arith, ints), omega (arith, ints)), omega arith))
-    (by_sign 21 (omega arith) x z fits e)
 
 pub below_s : (w : ℕ) → imm_s w < 2 ^ 12
 below_s w = omega arith

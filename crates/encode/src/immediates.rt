@@ -12,7 +12,7 @@ use isa::Refusal;
 // The `width` bits that stand for `z` in two's complement. Refuses 10 if it has not that many.
 pub(super) fn cut(z: i64, width: u32) -> Result<u32, Refusal>
     requires { (0 < width) × (width < 32) }
-    ensures { MatchResult result (λ x. (x < 2 ^ width) × (signed_of width x ≡ z)) (λ e. (number_of e ≡ 10) × (Within width z → ⊥)) }
+    ensures { MatchResult result (λ x. (x < 2 ^ width) × (signed_of width x ≡ z) × Within width z) (λ e. (number_of e ≡ 10) × (Within width z → ⊥)) }
 {
     let half = i64::from(1u32 << (width - 1));
     if z < -half || z >= half {
@@ -24,7 +24,7 @@ pub(super) fn cut(z: i64, width: u32) -> Result<u32, Refusal>
 // The same of an offset, which is even.
 pub(super) fn offset(z: i64, width: u32) -> Result<u32, Refusal>
     requires { (0 < width) × (width < 32) }
-    ensures { MatchResult result (λ x. (x < 2 ^ width) × (x % 2 ≡ 0) × (signed_of width x ≡ z)) (λ e. (number_of e ≡ 10) × (Within width z × Divides 2 z → ⊥)) }
+    ensures { MatchResult result (λ x. (x < 2 ^ width) × (signed_of width x ≡ z) × Within width z × (x % 2 ≡ 0) × Divides 2 z) (λ e. (number_of e ≡ 10) × (Within width z × Divides 2 z → ⊥)) }
 {
     if z % 2 != 0 {
         return Err(Refusal::DoesNotFit);

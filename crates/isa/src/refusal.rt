@@ -5,9 +5,9 @@ ghost use Rattle.isa.specs.Refusals.{number_of};
 #[derive(Clone, Copy, PartialEq, Eq, Debug)]
 pub enum Refusal {
     /// The word is no instruction.
-    NoInstruction,
+    NoInstruction = 3,
     /// The instruction has no word: a register, a lacking operand or the immediate does not fit.
-    DoesNotFit,
+    DoesNotFit = 10,
 }
 
 impl Refusal {
@@ -15,9 +15,6 @@ impl Refusal {
     pub fn number(self) -> u8
         ensures { result ≡ number_of self }
     {
-        match self {
-            Refusal::NoInstruction => 3,
-            Refusal::DoesNotFit => 10,
-        }
+        self as u8
     }
 }

@@ -1,10 +1,10 @@
-use Rattle.std.proofs.Common.{◌≡◌, Ok, sym, refl, ap, ◌∙◌, w64, SFits, rules}
-use Rattle.std.proofs.lemmas.Int.{to_z-of_z}
+use Rattle.std.proofs.Common.{◌≡◌, Ok, sym, refl, ap, ◌∙◌, w64, SFits, rules, arith}
+use Rattle.std.proofs.lemmas.Int.{to_z-of_z, ints}
 use Rattle.bits.specs.Sign.{signed_of}
 use Rattle.isa.specs.declared.instruction.Instruction.{Instruction}
 use Rattle.isa.specs.declared.mnemonic.Format.TheVariants.{Jump}
 use Rattle.isa.specs.Immediates.{imm_j}
-use Rattle.encode.proofs.Unique.{same_upper, same_offset, same_operands, below_j, holds_jump}
+use Rattle.encode.proofs.Unique.{same_upper, same_offset, same_operands, below_j}
 use Rattle.encode.proofs.formats.j_type.Goals as goal
 
 pub returns : goal.returns
@@ -15,8 +15,10 @@ returns c =
     let made = c.assemble_upper.ensures in
     let told = c.in_ok-offset.ensures in
     let f : SFits w64 i.immediate = search rules in
-    let value : signed_of 21 x ≡ i.immediate = simp to_z-of_z at told.2 in
+    let value : signed_of 21 x ≡ i.immediate = simp to_z-of_z at told.1 in
     let back = c.jump_slot.ensures.back w made.upper in
+    let within = simp to_z-of_z at told.2 in
+    let even = simp to_z-of_z at told.4 in
     record {
       only = λ v k.
           let there = c.jump_slot.ensures.there v (same_offset Jump 21 imm_j (search rules) below_j (λ _. refl) i v x k.operands told.0 value) in
@@ -27,6 +29,6 @@ returns c =
           codes = made.opcode;
           operands = same_operands Jump i w (sym made.rd) (search rules) (search rules) (sym (ap (signed_of 21) back ∙ value));
         },
-        (search rules, search rules, search rules, holds_jump x i.immediate told.0 told.1 value),
+        (search rules, search rules, search rules, ((omega (arith, ints, within.0), omega (arith, ints, within.1, even)), even)),
       );
     }

@@ -19,4 +19,5 @@ returns c =
     let whole : to_z w64 (of_z w64 (pos 2 *ℤ to_z w64 (of_z w64 c.from-half.result))) ≡ pos (2 ^ width) = omega (arith, ints) in
     let value : c.rem_euclid.result ≡ int_rem_euclid z (pos (2 ^ width)) = rw (to_z-of_z w64 z f, whole) at c.rem_euclid.ensures.value in
     let natural : pos (nat_abs (to_z w64 (of_z w64 c.rem_euclid.result))) ≡ c.rem_euclid.result = omega (arith, ints, c.rem_euclid.ensures.lower_bound) in
-    residue width c.requires.0 _ z within (natural ∙ value)
+    let bits = residue width c.requires.0 _ z within (natural ∙ value) in
+    (bits.0, bits.1, within)

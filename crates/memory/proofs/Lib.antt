@@ -1,1 +1,2 @@
 pub mod FourLanes
+pub mod Made

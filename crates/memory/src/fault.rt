@@ -1,4 +1,5 @@
 ghost use Rattle.std.specs.Prelude.{◌≡◌};
+ghost use Rattle.memory.specs.Meaning.{refused};
 ghost use Rattle.memory.specs.Refusals.{number_of};
 
 /// Why a memory refuses a call.
@@ -23,10 +24,17 @@ impl Cause {
             Cause::BadMask => 9,
         }
     }
+
+    /// The refusal of a call for word `word`, for this cause.
+    pub fn at(self, word: u32) -> MemoryFault
+        ensures { result ≡ refused self word }
+    {
+        MemoryFault { cause: self, word }
+    }
 }
 
 /// A refusal of a memory: its cause, and the word number that was given to the call.
-#[derive(Clone, Copy)]
+#[derive(Clone, Copy, PartialEq, Eq, Debug)]
 pub struct MemoryFault {
     pub cause: Cause,
     pub word: u32,

@@ -14,7 +14,7 @@ pub struct Placed<M> {
 fn reaches_below(base: u32, k: u32) -> bool
     ensures { result ≡ reaches base k }
 {
-    base <= k && k < 0x4000_0000
+    (base..0x4000_0000).contains(&k)
 }
 
 /// A placed memory can be read if the one below can.
@@ -37,15 +37,11 @@ impl<M: ReadMemory> ReadMemory for Placed<M> {
 
     fn read(&self, k: u32) -> Result<u32, MemoryFault> {
         if reaches_below(self.base, k) {
-            match self.below.read(k - self.base) {
-                Ok(word) => Ok(word),
-                Err(absent) => Err(MemoryFault { word: k, ..absent }),
-            }
+            self.below
+                .read(k - self.base)
+                .map_err(|absent| absent.cause.at(k))
         } else {
-            Err(MemoryFault {
-                cause: Cause::NoWord,
-                word: k,
-            })
+            Err(Cause::NoWord.at(k))
         }
     }
 }
@@ -56,21 +52,13 @@ impl<M: WriteMemory> WriteMemory for Placed<M> {
 
     fn write(&mut self, k: u32, value: u32, mask: u8) -> Result<(), MemoryFault> {
         if mask > 15 {
-            return Err(MemoryFault {
-                cause: Cause::BadMask,
-                word: k,
-            });
-        }
-        if reaches_below(self.base, k) {
-            match self.below.write(k - self.base, value, mask) {
-                Ok(done) => Ok(done),
-                Err(fault) => Err(MemoryFault { word: k, ..fault }),
-            }
+            Err(Cause::BadMask.at(k))
+        } else if reaches_below(self.base, k) {
+            self.below
+                .write(k - self.base, value, mask)
+                .map_err(|fault| fault.cause.at(k))
         } else {
-            Err(MemoryFault {
-                cause: Cause::NoWord,
-                word: k,
-            })
+            Err(Cause::NoWord.at(k))
         }
     }
 }

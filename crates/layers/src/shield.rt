@@ -22,7 +22,7 @@ impl<M: ReadMemory> ReadMemory for Shield<M> {
 
     fn kind(&self, k: u32) -> Kind {
         match self.below.kind(k) {
-            Kind::Open if self.from <= k && k < self.to => Kind::Fixed,
+            Kind::Open if (self.from..self.to).contains(&k) => Kind::Fixed,
             kind => kind,
         }
     }
@@ -37,14 +37,11 @@ impl<M: WriteMemory> WriteMemory for Shield<M> {
     ghost rest = { λ s. shield_rest s.from s.to (M.ReadMemory.kinds s.below) (M.WriteMemory.rest s.below) };
 
     fn write(&mut self, k: u32, value: u32, mask: u8) -> Result<(), MemoryFault> {
-        if mask <= 15 && self.from <= k && k < self.to {
-            if let Kind::Open = self.below.kind(k) {
-                return Err(MemoryFault {
-                    cause: Cause::FixedWord,
-                    word: k,
-                });
-            }
+        let shielded = (self.from..self.to).contains(&k);
+        if mask <= 15 && shielded && self.below.kind(k) == Kind::Open {
+            Err(Cause::FixedWord.at(k))
+        } else {
+            self.below.write(k, value, mask)
         }
-        self.below.write(k, value, mask)
     }
 }

@@ -6,7 +6,8 @@ ghost use Rattle.stack.specs.Wrote.{Wrote};
 use layers::Joined;
 use memory::{MemoryFault, ReadMemory, WriteMemory};
 
-// The write through the join, and what both memories hold when it is taken apart.
+// The write through the join, and what both memories hold when it is taken apart. It is no part of `write_beside` because its proof
+// did not close without a file, and where a file stands, a join at another place would be refused by the file and not by the clauses.
 fn write_joined<L: WriteMemory, R: WriteMemory>(
     at: u32,
     left: &mut L,

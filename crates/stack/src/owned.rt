@@ -1,5 +1,5 @@
 ghost use Rattle.std.specs.Prelude.{◌≡◌};
-ghost use Rattle.stack.specs.Stack.{stack_kinds, stack_words, written_then_read};
+ghost use Rattle.stack.specs.Stack.{stacked, stack_kinds, stack_words, written_then_read};
 
 use layers::{Joined, Placed, Shield};
 use memory::{MemoryFault, ReadMemory, WriteMemory};
@@ -12,6 +12,26 @@ pub struct Settings {
     pub from: u32,
     pub to: u32,
     pub at: u32,
+}
+
+impl Settings {
+    /// The two stores under one stack.
+    pub fn stack<L, R>(self, left: L, right: R) -> Joined<Placed<L>, Shield<R>>
+        ensures { result ≡ stacked self left right }
+    {
+        Joined {
+            at: self.at,
+            left: Placed {
+                base: self.base,
+                below: left,
+            },
+            right: Shield {
+                from: self.from,
+                to: self.to,
+                below: right,
+            },
+        }
+    }
 }
 
 /// Puts the two stores under one stack, writes word `k` through it and then reads word `j` through it. Answers the refusal of the
@@ -27,18 +47,7 @@ pub fn write_read<L: WriteMemory + Drop, R: WriteMemory + Drop>(
 ) -> Result<u32, MemoryFault>
     ensures { result ≡ written_then_read (stack_kinds settings (L.ReadMemory.kinds left) (R.ReadMemory.kinds right)) (stack_words settings (L.ReadMemory.words left) (R.ReadMemory.words right)) k value mask j }
 {
-    let mut stack = Joined {
-        at: settings.at,
-        left: Placed {
-            base: settings.base,
-            below: left,
-        },
-        right: Shield {
-            from: settings.from,
-            to: settings.to,
-            below: right,
-        },
-    };
+    let mut stack = settings.stack(left, right);
     stack.write(k, value, mask)?;
     stack.read(j)
 }

@@ -1,2 +1,2 @@
-pub mod Bytes
-pub mod Words
+pub mod Cells
+pub mod PutLanes

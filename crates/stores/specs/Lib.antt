@@ -1,2 +1,5 @@
 pub mod Bank
+pub mod ByteLaws
+pub mod Cells
 pub mod Layout
+pub mod WordLaws

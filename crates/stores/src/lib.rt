@@ -2,14 +2,15 @@
 
 #![tactic(auto)]
 
-mod byte_image;
-mod layout;
+mod byte_cells;
+mod cell;
 mod lent;
 mod read_only_image;
 mod refusals;
-mod word_bank;
+mod store;
+mod word_cells;
 
-pub use byte_image::ByteImage;
-pub use lent::{write_bytes, write_words};
+pub use cell::Cell;
+pub use lent::write_lent;
 pub use read_only_image::ReadOnlyImage;
-pub use word_bank::WordBank;
+pub use store::{ByteImage, Store, WordBank};

@@ -5,8 +5,8 @@ ghost use Rattle.memory.specs.Meaning.{write_of, patched};
 ghost use Rattle.memory.specs.declared.kind.Kind.TheVariants.{Fixed};
 ghost use Rattle.stores.specs.Layout.{kind_in_layout, word_in, high_in, fits_in, shared_bytes};
 
-use super::layout::{kind_in, read_word};
 use super::refusals::admit;
+use super::store::{kind_in, read_word};
 use memory::{Kind, MemoryFault, ReadMemory, WriteMemory};
 
 /// Lent bytes as a memory that no write changes, laid out as those of a `ByteImage`: a word is fixed where it would be open there.
@@ -40,7 +40,7 @@ impl<'a> ReadMemory for ReadOnlyImage<'a> {
     }
 
     fn read(&self, k: u32) -> Result<u32, MemoryFault> {
-        read_word(Kind::Fixed, self.bytes, k)
+        read_word(self.bytes, k)
     }
 }
 
@@ -56,6 +56,6 @@ impl<'a> WriteMemory for ReadOnlyImage<'a> {
         ensures rests { shared_bytes self.new.bytes.ref_ptr self.new.bytes.now ≡ shared_bytes self.old.bytes.ref_ptr self.old.bytes.now }
         ensures same { self.new ≡ self.old }
     {
-        admit((*self).kind(k), k, mask)
+        admit(self.kind(k), k, mask)
     }
 }

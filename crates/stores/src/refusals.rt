@@ -10,14 +10,10 @@ use memory::{Cause, Kind, MemoryFault};
 pub(super) fn admit(kind: Kind, k: u32, mask: u8) -> Result<(), MemoryFault>
     ensures { result ≡ write_of k mask kind }
 {
-    let cause = if mask > 15 {
-        Cause::BadMask
-    } else {
-        match kind {
-            Kind::Absent => Cause::NoWord,
-            Kind::Fixed => Cause::FixedWord,
-            Kind::Open => return Ok(()),
-        }
-    };
-    Err(MemoryFault { cause, word: k })
+    match kind {
+        _ if mask > 15 => Err(Cause::BadMask.at(k)),
+        Kind::Absent => Err(Cause::NoWord.at(k)),
+        Kind::Fixed => Err(Cause::FixedWord.at(k)),
+        Kind::Open => Ok(()),
+    }
 }

@@ -1,13 +1,11 @@
--- What a write leaves in a row of bytes, as words.
--- Assumes nothing.
-use Rattle.std.proofs.Common.{◌≡◌, ℕ, ◌+◌, ◌*◌, ◌/◌, ◌%◌, ◌^◌, ◌<◌, Bool, true, false, cond, eqb, ltb, ◌≢◌, List, length, get_or, set, sym, refl, ap, ◌∙◌, subst, inl, inr, add-zero, mod-eq_of_lt, arith, length-set, get_or-set_other, get_or-set_same}
+-- That bytes keep the laws of cells: the proof, of which no contract reads more than its end.
+use Rattle.std.proofs.Common.{◌≡◌, ℕ, ◌+◌, ◌*◌, ◌/◌, ◌%◌, ◌^◌, ◌<◌, Bool, true, false, cond, ◌≢◌, List, length, get_or, set, sym, refl, ap, ◌∙◌, subst, inl, inr, add-zero, mod-eq_of_lt, arith, length-set, get_or-set_other, get_or-set_same}
 use Rattle.std.proofs.lemmas.Nat.{mod_below}
-use Rattle.std.proofs.lemmas.Bool.{eqb-true, eqb-false, cases_Bool, ltb-true, both_ways}
+use Rattle.std.proofs.lemmas.Bool.{cases_Bool, ltb-true, both_ways}
 use Rattle.memory.proofs.FourLanes.{lane_0, lane_1, lane_2, lane_3}
-use Rattle.memory.specs.declared.kind.Kind.TheVariants.{Absent, Open}
 use Rattle.memory.specs.Lanes.{lane, named, of_lanes, taken, merged}
-use Rattle.memory.specs.Meaning.{written, patched}
-use Rattle.stores.specs.Layout.{whole, word_at, word_in, kind_in_layout, outside, with_lane, with_lanes, bytes_after}
+use Rattle.stores.specs.Cells.{CellLaws}
+use Rattle.stores.specs.Layout.{whole, whole_high, word_at, outside, with_lane, with_lanes}
 
 -- one place, put or left
 module _ (b : Bool) (xs : List ℕ) (i x : ℕ) where
@@ -28,16 +26,16 @@ module _ (a b c d : ℕ) where
   byte : (x : ℕ) → x % 2 ^ 8 < 2 ^ 8
   byte x = mod_below x (2 ^ 8) (omega arith)
 
-  first : lane 0 word ≡ a % 2 ^ 8
+  pub first : lane 0 word ≡ a % 2 ^ 8
   first = lane_0 _ _ _ _ (byte a) (byte b) (byte c) (byte d)
 
-  second : lane 1 word ≡ b % 2 ^ 8
+  pub second : lane 1 word ≡ b % 2 ^ 8
   second = lane_1 _ _ _ _ (byte a) (byte b) (byte c) (byte d)
 
-  third : lane 2 word ≡ c % 2 ^ 8
+  pub third : lane 2 word ≡ c % 2 ^ 8
   third = lane_2 _ _ _ _ (byte a) (byte b) (byte c) (byte d)
 
-  fourth : lane 3 word ≡ d % 2 ^ 8
+  pub fourth : lane 3 word ≡ d % 2 ^ 8
   fourth = lane_3 _ _ _ _ (byte a) (byte b) (byte c) (byte d)
 
 same_lanes : {a b c d a' b' c' d' : ℕ} → a ≡ a' → b ≡ b' → c ≡ c' → d ≡ d' → of_lanes a b c d ≡ of_lanes a' b' c' d'
@@ -63,10 +61,10 @@ module _ (bs : List ℕ) (k v mask : ℕ) where
   lane_other : (xs : List ℕ) (i j : ℕ) → j ≢ 4 * k + i → get_or (with_lane xs k v mask i) j 0 ≡ get_or xs j 0
   lane_other xs i j n = put_other (named i mask) xs (4 * k + i) (lane i v) j n
 
-  lanes_length : length (with_lanes bs k v mask) ≡ length bs
+  pub lanes_length : length (with_lanes bs k v mask) ≡ length bs
   lanes_length = lane_length three 3 ∙ lane_length two 2 ∙ lane_length one 1 ∙ lane_length bs 0
 
-  lanes_other : (j : ℕ) → (j / 4 ≢ k) → get_or (with_lanes bs k v mask) j 0 ≡ get_or bs j 0
+  pub lanes_other : (j : ℕ) → (j / 4 ≢ k) → get_or (with_lanes bs k v mask) j 0 ≡ get_or bs j 0
   lanes_other j n =
       lane_other three 3 j (λ e. n (omega arith)) ∙ lane_other two 2 j (λ e. n (omega arith))
       ∙ lane_other one 1 j (λ e. n (omega arith)) ∙ lane_other bs 0 j (λ e. n (omega arith))
@@ -82,16 +80,16 @@ module _ (bs : List ℕ) (k v mask : ℕ) where
     l3 : length three ≡ length bs
     l3 = lane_length two 2 ∙ l2
 
-    byte0 : get_or (with_lanes bs k v mask) (4 * k + 0) 0 ≡ cond (named 0 mask) (lane 0 v) (get_or bs (4 * k + 0) 0)
+    pub byte0 : get_or (with_lanes bs k v mask) (4 * k + 0) 0 ≡ cond (named 0 mask) (lane 0 v) (get_or bs (4 * k + 0) 0)
     byte0 = lane_other three 3 _ (λ e. omega arith) ∙ lane_other two 2 _ (λ e. omega arith) ∙ lane_other one 1 _ (λ e. omega arith) ∙ lane_same bs 0 (omega arith)
 
-    byte1 : get_or (with_lanes bs k v mask) (4 * k + 1) 0 ≡ cond (named 1 mask) (lane 1 v) (get_or bs (4 * k + 1) 0)
+    pub byte1 : get_or (with_lanes bs k v mask) (4 * k + 1) 0 ≡ cond (named 1 mask) (lane 1 v) (get_or bs (4 * k + 1) 0)
     byte1 = lane_other three 3 _ (λ e. omega arith) ∙ lane_other two 2 _ (λ e. omega arith) ∙ lane_same one 1 (omega (arith, l1)) ∙ ap (cond (named 1 mask) (lane 1 v)) (lane_other bs 0 _ (λ e. omega arith))
 
-    byte2 : get_or (with_lanes bs k v mask) (4 * k + 2) 0 ≡ cond (named 2 mask) (lane 2 v) (get_or bs (4 * k + 2) 0)
+    pub byte2 : get_or (with_lanes bs k v mask) (4 * k + 2) 0 ≡ cond (named 2 mask) (lane 2 v) (get_or bs (4 * k + 2) 0)
     byte2 = lane_other three 3 _ (λ e. omega arith) ∙ lane_same two 2 (omega (arith, l2)) ∙ ap (cond (named 2 mask) (lane 2 v)) (lane_other one 1 _ (λ e. omega arith) ∙ lane_other bs 0 _ (λ e. omega arith))
 
-    byte3 : get_or (with_lanes bs k v mask) (4 * k + 3) 0 ≡ cond (named 3 mask) (lane 3 v) (get_or bs (4 * k + 3) 0)
+    pub byte3 : get_or (with_lanes bs k v mask) (4 * k + 3) 0 ≡ cond (named 3 mask) (lane 3 v) (get_or bs (4 * k + 3) 0)
     byte3 = lane_same three 3 (omega (arith, l3)) ∙ ap (cond (named 3 mask) (lane 3 v)) (lane_other two 2 _ (λ e. omega arith) ∙ lane_other one 1 _ (λ e. omega arith) ∙ lane_other bs 0 _ (λ e. omega arith))
 
     -- the byte that is taken or left is the lane of the word
@@ -115,52 +113,24 @@ module _ (bs : List ℕ) (k v mask : ℕ) where
       let byte : (i : ℕ) → i / 4 ≡ j → get_or (with_lanes bs k v mask) i 0 % 2 ^ 8 ≡ get_or bs i 0 % 2 ^ 8 = λ i h. ap (λ x. x % 2 ^ 8) (lanes_other i (λ e. n (omega arith))) in
       same_lanes (byte (4 * j) (omega arith)) (byte (4 * j + 1) (omega arith)) (byte (4 * j + 2) (omega arith)) (byte (4 * j + 3) (omega arith))
 
--- the whole row of bytes after a write
-module _ (bs : List ℕ) (k v mask : ℕ) where
-  pub after_length : length (bytes_after bs k v mask) ≡ length bs
-  after_length =
-      elim (ltb 15 mask) as (λ t. length (cond t bs (cond (whole (length bs) k) (with_lanes bs k v mask) bs)) ≡ length bs) [
-        | true ↦ refl
-        | false ↦ elim (whole (length bs) k) as (λ t. length (cond t (with_lanes bs k v mask) bs) ≡ length bs) [ true ↦ lanes_length bs k v mask | false ↦ refl ]
-      ]
+-- the four bytes of a word that is there
+pub four_there : (n k : ℕ) → whole n k ≡ true → 4 * k + 3 < n
+four_there n k h = grind (arith, ltb-true)
 
-  -- the four bytes of a word that is there
-  four_there : whole (length bs) k ≡ true → 4 * k + 3 < length bs
-  four_there h = grind (arith, ltb-true)
+-- a byte that belongs to no word is none of a word that is there
+lanes_outside : (bs : List ℕ) (k v mask i : ℕ) → whole (length bs) k ≡ true → outside (with_lanes bs k v mask) i ≡ outside bs i
+lanes_outside bs k v mask i w =
+    rw lanes_length (elim (cases_Bool (whole (length bs) (i / 4))) [
+      | inl e ↦ rw e
+      | inr e ↦ rw e (lanes_other bs k v mask i (λ h. both_ways (whole (length bs) k) (rw h at e) w))
+    ])
 
-  -- a refused write leaves word j, whatever its number
-  left : (j : ℕ) → ltb 15 mask ≡ true → word_in bs j ≡ patched (kind_in_layout Open bs) (word_in bs) k v mask j
-  left j m =
-      elim (eqb j k) as (λ t. word_in bs j ≡ cond t (written mask v (kind_in_layout Open bs j) (word_in bs j)) (word_in bs j)) [
-        | true ↦ elim (whole (length bs) j) as (λ t. cond t (word_at bs j) 0 ≡ written mask v (cond t Open Absent) (cond t (word_at bs j) 0)) [ true ↦ rw m | false ↦ refl ]
-        | false ↦ refl
-      ]
-
-  pub after_words : (j : ℕ) → word_in (bytes_after bs k v mask) j ≡ patched (kind_in_layout Open bs) (word_in bs) k v mask j
-  after_words j =
-      rw after_length (elim (cases_Bool (ltb 15 mask)) [
-        | inl m ↦ rw m (left j m)
-        | inr m ↦ elim (cases_Bool (whole (length bs) k)) [
-          | inl w ↦ elim (cases_Bool (eqb j k)) [
-            | inl e ↦ let i : j ≡ k = eqb-true j k e in rw (m, w, e, i, w, m) (word_same bs k v mask (four_there w))
-            | inr e ↦ let n : j ≢ k = eqb-false j k e in rw (m, w, e, word_other bs k v mask j n)
-          ]
-          | inr w ↦ elim (cases_Bool (eqb j k)) [
-            | inl e ↦ let i : j ≡ k = eqb-true j k e in rw (m, w, e, i, w)
-            | inr e ↦ rw (m, w, e)
-          ]
-        ]
-      ])
-
-  pub after_outside : (i : ℕ) → outside (bytes_after bs k v mask) i ≡ outside bs i
-  after_outside i =
-      rw after_length (elim (cases_Bool (whole (length bs) (i / 4))) [
-        | inl e ↦ rw e
-        | inr e ↦ rw e (elim (ltb 15 mask) as (λ t. get_or (cond t bs (cond (whole (length bs) k) (with_lanes bs k v mask) bs)) i 0 ≡ get_or bs i 0) [
-          | true ↦ refl
-          | false ↦ elim (cases_Bool (whole (length bs) k)) [
-            | inl w ↦ rw w (lanes_other bs k v mask i (λ h. both_ways (whole (length bs) k) (rw h at e) w))
-            | inr w ↦ rw w
-          ]
-        ])
-      ])
+pub byte_laws : CellLaws whole word_at with_lanes outside
+byte_laws = record {
+  high = whole_high;
+  fits = λ bs k. omega arith;
+  same_length = lanes_length;
+  this_word = λ bs k v mask w. word_same bs k v mask (four_there (length bs) k w);
+  other_word = word_other;
+  same_spare = lanes_outside;
+}

@@ -1,6 +1,7 @@
 -- That words keep the laws of cells: the proof, of which no contract reads more than its end.
-use Rattle.std.proofs.Common.{◌≡◌, ℕ, ◌%◌, ◌^◌, ◌<◌, true, length, get_or, sym, ◌∙◌, inl, inr, mod-eq_of_lt, arith, length-set, get_or-set_other, get_or-set_same}
-use Rattle.std.proofs.lemmas.Bool.{cases_Bool, ltb-true, both_ways}
+use Rattle.std.proofs.Common.{◌≡◌, ℕ, ◌%◌, ◌^◌, ◌<◌, true, List, length, get_or, arith}
+use Rattle.std.proofs.lemmas.Bool.{ltb-true}
+use Rattle.std.proofs.lemmas.Grind.{common_steps}
 use Rattle.memory.proofs.FourLanes.{each_lane}
 use Rattle.memory.specs.Lanes.{lane, taken, merged}
 use Rattle.stores.specs.Bank.{within, within_high, placed_at, spare, with_word}
@@ -21,15 +22,25 @@ module _ (mask v w : ℕ) where
 placed : (n k : ℕ) → within n k ≡ true → k < n
 placed n k h = grind (arith, ltb-true)
 
+module _ (ws : List ℕ) (k v mask : ℕ) where
+  same_length : length (with_word ws k v mask) ≡ length ws
+  same_length = grind (arith, common_steps)
+
+  this_word : within (length ws) k ≡ true → placed_at (with_word ws k v mask) k ≡ merged mask v (placed_at ws k)
+  this_word w =
+      let p : k < length ws = placed (length ws) k w in
+      let below : merged mask v (get_or ws k 0) < 2 ^ 32 = merged_below mask v (get_or ws k 0) in
+      rw (merged_low mask v (get_or ws k 0)) (grind (arith, common_steps))
+
+  same_spare : (j : ℕ) → within (length ws) k ≡ true → spare (with_word ws k v mask) j ≡ spare ws j
+  same_spare j w = rw same_length (grind (arith, common_steps))
+
 pub word_laws : CellLaws within placed_at with_word spare
 word_laws = record {
   high = within_high;
   fits = λ ws k. omega arith;
-  same_length = λ ws k v mask. length-set ws k _;
-  this_word = λ ws k v mask w. rw (get_or-set_same ws k _ 0 (placed (length ws) k w)) (mod-eq_of_lt (merged_below mask v (get_or ws k 0)) ∙ sym (merged_low mask v (get_or ws k 0)));
-  other_word = λ ws k v mask j n. rw (get_or-set_other ws k j _ 0 n);
-  same_spare = λ ws k v mask j w. rw length-set (elim (cases_Bool (within (length ws) j)) [
-    | inl e ↦ rw e
-    | inr e ↦ rw e (get_or-set_other ws k j _ 0 (λ h. both_ways (within (length ws) k) (rw h at e) w))
-  ]);
+  same_length = same_length;
+  this_word = this_word;
+  other_word = λ ws k v mask j n. grind (arith, common_steps);
+  same_spare = same_spare;
 }

@@ -33,11 +33,7 @@ impl Cell for u8 {
     }
 
     fn word(bytes: &[u8], k: u32) -> Option<u32> {
-        if u8::holds(bytes, k) {
-            Some(u32::from_le_bytes(four(bytes, 4 * (k as usize))))
-        } else {
-            None
-        }
+        u8::holds(bytes, k).then(|| u32::from_le_bytes(four(bytes, 4 * (k as usize))))
     }
 
     #[tactic(auto, using(crate::proofs::PutLanes::written))]

@@ -23,11 +23,7 @@ impl Cell for u32 {
     }
 
     fn word(words: &[u32], k: u32) -> Option<u32> {
-        if u32::holds(words, k) {
-            Some(words[k as usize])
-        } else {
-            None
-        }
+        u32::holds(words, k).then(|| words[k as usize])
     }
 
     fn put_lanes(words: &mut [u32], k: u32, value: u32, mask: u8) {

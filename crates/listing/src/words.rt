@@ -9,8 +9,8 @@ use stores::ByteImage;
 
 // Word `k` of an image that is placed at its base, read there. The read is not refused.
 fn image_word(memory: &Placed<ByteImage<'_>>, k: u32) -> u32
-    requires { (memory.now.base + k < 2 ^ 30) × (4 * k + 3 < length memory.now.below.bytes.now) }
-    ensures { result ≡ word_at memory.now.below.bytes.now k }
+    requires { (memory.now.base + k < 2 ^ 30) × (4 * k + 3 < length memory.now.below.cells.now) }
+    ensures { result ≡ word_at memory.now.below.cells.now k }
 {
     memory.read(memory.base + k).unwrap_or(0)
 }

@@ -7,7 +7,7 @@ ghost use Rattle.stores.specs.Layout.{whole, word_at, with_lanes, outside};
 use super::cell::Cell;
 use memory::merge;
 
-// The four bytes from `i` on.
+// The four bytes from `i` on. Written out, since a slice that is turned into an array answers a `Result`.
 fn four(bytes: &[u8], i: usize) -> [u8; 4]
     requires { i + 3 < length bytes.now }
     ensures lanes { result ≡ slice_index bytes.now i % 2 ^ 8 ∷ slice_index bytes.now (i + 1) % 2 ^ 8 ∷ slice_index bytes.now (i + 2) % 2 ^ 8 ∷ slice_index bytes.now (i + 3) % 2 ^ 8 ∷ [] }

@@ -9,6 +9,8 @@ use super::refusals::admit;
 use super::store::{kind_in, read_word};
 use memory::{Kind, MemoryFault, ReadMemory, WriteMemory};
 
+// No `Store`: it borrows by `&`, which is known by its place and has no name, so `rest` says another thing; and it needs no cells
+// but bytes.
 /// Lent bytes as a memory that no write changes, laid out as those of a `ByteImage`: a word is fixed where it would be open there.
 #[derive(Drop)]
 pub struct ReadOnlyImage<'a> {

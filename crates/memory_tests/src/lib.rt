@@ -3,8 +3,6 @@
 #![tactic(auto)]
 
 #[cfg(test)]
-mod checks;
-#[cfg(test)]
 mod layers_at_their_ends;
 #[cfg(test)]
 mod stacks;

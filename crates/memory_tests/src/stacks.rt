@@ -1,17 +1,9 @@
-use memory::MemoryFault;
 use stack::{Settings, write_beside, write_read};
 use stores::{ByteImage, WordBank};
 
-/// The word that was read, or the number of the refusal and the word number in it.
-fn told(answer: Result<u32, MemoryFault>) -> (u32, u8, u32) {
-    match answer {
-        Ok(word) => (word, 0, 0),
-        Err(fault) => (0, fault.cause.number(), fault.word),
-    }
-}
-
 /// Two words placed at 4 and joined at 6 to a bank of eight words with a shield over the last: writes word `k` and reads it.
-fn through(k: u32, mask: u8) -> (u32, u8, u32) {
+/// Answers the word, or the number of the refusal and the word number in it.
+fn through(k: u32, mask: u8) -> Result<u32, (u8, u32)> {
     let mut bytes = [0u8; 8];
     let mut words = [5u32; 8];
     let settings = Settings {
@@ -20,7 +12,7 @@ fn through(k: u32, mask: u8) -> (u32, u8, u32) {
         to: 8,
         at: 6,
     };
-    told(write_read(
+    write_read(
         settings,
         ByteImage::new(&mut bytes),
         WordBank::new(&mut words),
@@ -28,18 +20,19 @@ fn through(k: u32, mask: u8) -> (u32, u8, u32) {
         0x0102_0304,
         mask,
         k,
-    ))
+    )
+    .map_err(|fault| (fault.cause.number(), fault.word))
 }
 
 #[test]
 fn all_three_layers(rt: HostRuntime) {
-    assert_eq!(rt; through(3, 15), (0, 2, 3));
-    assert_eq!(rt; through(4, 0b0101), (0x0002_0004, 0, 0));
-    assert_eq!(rt; through(5, 15), (0x0102_0304, 0, 0));
-    assert_eq!(rt; through(6, 0b1000), (0x0100_0005, 0, 0));
-    assert_eq!(rt; through(7, 15), (0, 5, 7));
-    assert_eq!(rt; through(7, 16), (0, 9, 7));
-    assert_eq!(rt; through(8, 15), (0, 2, 8));
+    assert_eq!(rt; through(3, 15), Err((2, 3)));
+    assert_eq!(rt; through(4, 0b0101), Ok(0x0002_0004));
+    assert_eq!(rt; through(5, 15), Ok(0x0102_0304));
+    assert_eq!(rt; through(6, 0b1000), Ok(0x0100_0005));
+    assert_eq!(rt; through(7, 15), Err((5, 7)));
+    assert_eq!(rt; through(7, 16), Err((9, 7)));
+    assert_eq!(rt; through(8, 15), Err((2, 8)));
 }
 
 #[test]
@@ -48,8 +41,14 @@ fn side_by_side(rt: HostRuntime) {
     let mut words = [5u32; 2];
     let mut left = ByteImage::new(&mut bytes);
     let mut right = WordBank::new(&mut words);
-    assert!(rt; write_beside(1, &mut left, &mut right, 0, 0x0102_0304, 15).is_ok());
-    assert!(rt; write_beside(1, &mut left, &mut right, 1, 0x0102_0304, 3).is_ok());
+    assert_eq!(rt;
+        write_beside(1, &mut left, &mut right, 0, 0x0102_0304, 15),
+        Ok(())
+    );
+    assert_eq!(rt;
+        write_beside(1, &mut left, &mut right, 1, 0x0102_0304, 3),
+        Ok(())
+    );
     assert_eq!(rt; bytes, [4, 3, 2, 1, 0, 0, 0, 0, 0]);
     assert_eq!(rt; words, [5, 0x0304]);
 }

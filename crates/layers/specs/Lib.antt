@@ -1,3 +1,4 @@
 pub mod Joined
 pub mod Placed
 pub mod Shield
+pub mod Wrote

@@ -1,12 +1,12 @@
--- What a write through two joined memories, each lent, leaves of either.
+-- What a write through two joined memories, each lent, leaves of either, from the clauses that any memory has.
 -- Assumes nothing.
-use Rattle.std.proofs.Common.{◌≡◌, ℕ, cond, not, eqb, ltb, ap, subst, inl, inr, arith}
-use Rattle.std.proofs.lemmas.Bool.{cases_Bool, eqb-true}
+use Rattle.std.proofs.Common.{◌≡◌, ℕ, cond, not, ltb, ap, subst, arith}
+use Rattle.std.proofs.lemmas.Bool.{eqb-true}
 use Rattle.layers.specs.Joined.{joined, joined_rest}
 use Rattle.memory.specs.Meaning.{patched}
 use Rattle.memory.specs.Rest.{Rest, over, beside, hidden, nowhere}
 use Rattle.memory.specs.declared.kind.Kind.{Kind}
-use Rattle.stack.specs.Wrote.{Wrote}
+use Rattle.layers.specs.Wrote.{Wrote}
 
 -- the words of either one, from the words of both joined and from those that do not show
 module _ (at k v mask : ℕ) (kl kr : ℕ → Kind) (wl wr wl' wr' : ℕ → ℕ)
@@ -14,34 +14,10 @@ module _ (at k v mask : ℕ) (kl kr : ℕ → Kind) (wl wr wl' wr' : ℕ → ℕ
     (hl : hidden (λ j. ltb j at) wl' ≡ hidden (λ j. ltb j at) wl)
     (hr : hidden (λ j. not (ltb j at)) wr' ≡ hidden (λ j. not (ltb j at)) wr) where
   left_after : (j : ℕ) → wl' j ≡ cond (ltb k at) (patched kl wl k v mask j) (wl j)
-  left_after j =
-      let p = a j in
-      let q = ap (λ (f : ℕ → ℕ). f j) hl in
-      elim (cases_Bool (ltb j at)) [
-        | inl e ↦ (elim (cases_Bool (eqb j k)) [
-          | inl i ↦ let n : j ≡ k = eqb-true j k i in grind arith
-          | inr i ↦ grind arith
-        ])
-        | inr e ↦ (elim (cases_Bool (eqb j k)) [
-          | inl i ↦ let n : j ≡ k = eqb-true j k i in grind arith
-          | inr i ↦ grind arith
-        ])
-      ]
+  left_after j = let p = a j in let q = ap (λ (f : ℕ → ℕ). f j) hl in grind (arith, eqb-true)
 
   right_after : (j : ℕ) → wr' j ≡ cond (not (ltb k at)) (patched kr wr k v mask j) (wr j)
-  right_after j =
-      let p = a j in
-      let q = ap (λ (f : ℕ → ℕ). f j) hr in
-      elim (cases_Bool (ltb j at)) [
-        | inl e ↦ (elim (cases_Bool (eqb j k)) [
-          | inl i ↦ let n : j ≡ k = eqb-true j k i in grind arith
-          | inr i ↦ grind arith
-        ])
-        | inr e ↦ (elim (cases_Bool (eqb j k)) [
-          | inl i ↦ let n : j ≡ k = eqb-true j k i in grind arith
-          | inr i ↦ grind arith
-        ])
-      ]
+  right_after j = let p = a j in let q = ap (λ (f : ℕ → ℕ). f j) hr in grind (arith, eqb-true)
 
 -- the parts of the rest of two joined memories, each lent, where the whole is unchanged
 record Parts (at at' nl nl' nr nr' : ℕ) (kl kl' kr kr' : ℕ → Kind) (hl hl' hr hr' : ℕ → ℕ) (rl rl' rr rr' : Rest) : Type 0 where

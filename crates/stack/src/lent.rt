@@ -1,28 +1,10 @@
 ghost use Rattle.std.specs.Prelude.{◌≡◌, not, nat_lt};
 ghost use Rattle.layers.specs.Joined.{joined};
+ghost use Rattle.layers.specs.Wrote.{Wrote};
 ghost use Rattle.memory.specs.Meaning.{write_of};
-ghost use Rattle.stack.specs.Wrote.{Wrote};
 
 use layers::Joined;
 use memory::{MemoryFault, ReadMemory, WriteMemory};
-
-// The write through the join, and what both memories hold when it is taken apart. It is no part of `write_beside` because its proof
-// did not close without a file, and where a file stands, a join at another place would be refused by the file and not by the clauses.
-fn write_joined<L: WriteMemory, R: WriteMemory>(
-    at: u32,
-    left: &mut L,
-    right: &mut R,
-    k: u32,
-    value: u32,
-    mask: u8,
-) -> Result<(), MemoryFault>
-    ensures answer { result ≡ write_of k mask (joined at (L.ReadMemory.kinds left.old) (R.ReadMemory.kinds right.old) k) }
-    ensures left { Wrote (L.ReadMemory.kinds left.old) (L.ReadMemory.words left.old) (L.WriteMemory.rest left.old) (nat_lt k at) k value mask (L.ReadMemory.kinds left.new) (L.ReadMemory.words left.new) (L.WriteMemory.rest left.new) }
-    ensures right { Wrote (R.ReadMemory.kinds right.old) (R.ReadMemory.words right.old) (R.WriteMemory.rest right.old) (not (nat_lt k at)) k value mask (R.ReadMemory.kinds right.new) (R.ReadMemory.words right.new) (R.WriteMemory.rest right.new) }
-{
-    let mut pair = Joined { at, left, right };
-    pair.write(k, value, mask)
-}
 
 /// Writes word `k` through the two memories joined at `at`, and hands both back. The left one is written if `k` is below `at`, the
 /// right one otherwise; the other is as it was.
@@ -38,5 +20,5 @@ pub fn write_beside<L: WriteMemory, R: WriteMemory>(
     ensures left { Wrote (L.ReadMemory.kinds left.old) (L.ReadMemory.words left.old) (L.WriteMemory.rest left.old) (nat_lt k at) k value mask (L.ReadMemory.kinds left.new) (L.ReadMemory.words left.new) (L.WriteMemory.rest left.new) }
     ensures right { Wrote (R.ReadMemory.kinds right.old) (R.ReadMemory.words right.old) (R.WriteMemory.rest right.old) (not (nat_lt k at)) k value mask (R.ReadMemory.kinds right.new) (R.ReadMemory.words right.new) (R.WriteMemory.rest right.new) }
 {
-    write_joined(at, left, right, k, value, mask)
+    Joined { at, left, right }.write(k, value, mask)
 }

@@ -6,7 +6,6 @@ ghost use Rattle.session.specs.Stacks.{stack_fits};
 
 use super::call::{Answer, Call};
 use super::playing::play;
-use layers::{Joined, Placed, Shield};
 use memory::WriteMemory;
 use registers::RegisterFile;
 use stack::Settings;
@@ -26,18 +25,6 @@ pub fn play_stacked<L: WriteMemory + Drop, R: WriteMemory + Drop>(
     ensures later { drop result places.new ≡ drop result places.old }
     ensures law { LawfulSomewhere (start_of (stack_kinds settings (L.ReadMemory.kinds left) (R.ReadMemory.kinds right)) (stack_words settings (L.ReadMemory.words left) (R.ReadMemory.words right)) (stack_fits settings (L.ReadMemory.words left) (R.ReadMemory.words right) (L.ReadMemory.fits left) (R.ReadMemory.fits right)) registers pc) (take result calls.now) (take result places.new) }
 {
-    let stack = Joined {
-        at: settings.at,
-        left: Placed {
-            base: settings.base,
-            below: left,
-        },
-        right: Shield {
-            from: settings.from,
-            to: settings.to,
-            below: right,
-        },
-    };
-    let (_, count) = play(stack, registers, pc, calls, places);
+    let (_, count) = play(settings.stack(left, right), registers, pc, calls, places);
     count
 }

@@ -1,10 +1,12 @@
 -- Each call keeps the law, whatever calls came before it.
-use Rattle.std.proofs.Common.{◌≡◌, ℕ, Result, sym, subst}
+use Rattle.std.proofs.Common.{◌≡◌, ℕ, ◌+◌, Err, Result, sym, subst, arith}
 use Rattle.arch1.specs.declared.phase.CoreFault.{CoreFault}
 use Rattle.arch1.specs.declared.phase.Ticked.{Ticked}
+use Rattle.memory.specs.declared.interfaces.ReadMemory.{Ghosts}
+use Rattle.registers.specs.declared.file.RegisterFile.{RegisterFile}
 use Rattle.bench.proofs.Laws.{Lives, new_lives, tick_lives, step_lives, run_lives, back_lives, lives_stands}
 use Rattle.bench.specs.Calls.{new_state, tick_answer, ticked_state, step_answer, stepped_state, run_answer, ran_state, back_answer, back_state}
-use Rattle.bench.specs.Law.{Start, Stands, tick_count, step_count, run_count, back_count, Reached, fresh, ticked, did_step, did_run, went_back, Kept, Begins}
+use Rattle.bench.specs.Law.{Start, Stands, tick_count, step_count, run_count, back_count, Reached, fresh, ticked, did_step, did_run, went_back, Kept, TickKept, StepKept, RunKept, BackKept, Begins, BeginsOver, start_over}
 use Rattle.bench.specs.State.{State}
 use Rattle.bench.specs.declared.answers.BackFault.{BackFault}
 use Rattle.bench.specs.declared.answers.RunFault.{RunFault}
@@ -28,14 +30,27 @@ begins s t e =
     let here : Reached s 0 t = subst (Reached s 0) (sym e) fresh in
     record { reached = here; stands = reached_stands s 0 t here }
 
-pub tick_kept : (t u : State) (r : Result Ticked CoreFault) → r ≡ tick_answer t → u ≡ ticked_state t → Kept (λ n. tick_count n r) t u
+pub begins_over : {M : Type 0} (m : Ghosts M) (memory : M) (rs : RegisterFile) (p : ℕ) (t : State) → t ≡ new_state (m.kinds memory) (m.words memory) rs p → BeginsOver m memory rs p t
+unfolding BeginsOver
+begins_over m memory rs p t e = begins (start_over m memory rs p) t e
+
+-- a run that was refused before its first step
+pub not_run_kept : (f : RunFault) (t : State) → f.done ≡ 0 → RunKept (Err f) t t
+unfolding RunKept
+not_run_kept f t e = kept (λ n. n + f.done) t t (λ s n h. let same : n ≡ n + f.done = omega arith in subst (λ (k : ℕ). Reached s k t) same h)
+
+pub tick_kept : (t u : State) (r : Result Ticked CoreFault) → r ≡ tick_answer t → u ≡ ticked_state t → TickKept r t u
+unfolding TickKept
 tick_kept t u r e f = kept (λ n. tick_count n r) t u (λ s n h. rw (e, f) (ticked n t h))
 
-pub step_kept : (t u : State) (r : Result Stepped CoreFault) → r ≡ step_answer t → u ≡ stepped_state t → Kept (λ n. step_count n r) t u
+pub step_kept : (t u : State) (r : Result Stepped CoreFault) → r ≡ step_answer t → u ≡ stepped_state t → StepKept r t u
+unfolding StepKept
 step_kept t u r e f = kept (λ n. step_count n r) t u (λ s n h. rw (e, f) (did_step n t h))
 
-pub run_kept : (m : ℕ) (t u : State) (r : Result ℕ RunFault) → r ≡ run_answer m t → u ≡ ran_state m t → Kept (λ n. run_count n r) t u
+pub run_kept : (m : ℕ) (t u : State) (r : Result ℕ RunFault) → r ≡ run_answer m t → u ≡ ran_state m t → RunKept r t u
+unfolding RunKept
 run_kept m t u r e f = kept (λ n. run_count n r) t u (λ s n h. rw (e, f) (did_run n m t h))
 
-pub back_kept : (t u : State) (r : Result ℕ BackFault) → r ≡ back_answer t → u ≡ back_state t → Kept (λ n. back_count n r) t u
+pub back_kept : (t u : State) (r : Result ℕ BackFault) → r ≡ back_answer t → u ≡ back_state t → BackKept r t u
+unfolding BackKept
 back_kept t u r e f = kept (λ n. back_count n r) t u (λ s n h. rw (e, f) (went_back n t h))

@@ -11,12 +11,13 @@ use Rattle.arch1.specs.Phases.{phase_number}
 use Rattle.arch1.specs.declared.phase.CoreFault.{CoreFault}
 use Rattle.arch1.specs.declared.phase.Phase.TheVariants.{T0, T1, T2, T3}
 use Rattle.arch1.specs.declared.phase.Ticked.{Ticked}
+use Rattle.journal.specs.Ring.{popped}
 use Rattle.journal.specs.declared.entry.Entry.{Entry}
 use Rattle.machine.specs.Machine.{Arch, Step, went, cannot, stepped, fetched_word, wrap, x, Run, after, long}
 use Rattle.memory.specs.declared.kind.Kind.{Kind}
 use Rattle.bench.proofs.Sound.{Past, Sound, sound, sound_new, TickBy, TickOutcome, tick_law, owes_phase, phase_few}
 use Rattle.bench.proofs.Undo.{Fit}
-use Rattle.bench.specs.Calls.{down, open_clocks, new_state, tick_answer, ticked_state, entry, advanced_by, stepped_of, last_answer, step_answer_on, stepped_on, step_answer_for, stepped_for, step_answer, stepped_state}
+use Rattle.bench.specs.Calls.{down, open_clocks, new_state, tick_answer, ticked_state, entry, stepped_of, last_answer, step_answer_on, stepped_on, step_answer_for, stepped_for, step_answer, stepped_state}
 use Rattle.bench.specs.Calls.{run_answer_on, ran_on, run_answer_for, ran_for, run_answer, ran_state, closed_state, took_back, took_answer, back_state, back_answer}
 use Rattle.bench.specs.Law.{Start, Stands, Next, tick_count, step_count, run_count, back_count}
 use Rattle.bench.specs.State.{State}
@@ -40,7 +41,7 @@ module _ (s : Start) (n : ℕ) (r : Run) where
   last_by t true h law = retired_by_lem t law
   last_by t false h law = let few = phase_few (ticked_state t).core.phase in let more = law.1 in absurd (omega arith)
 
-  last_law : (t : State) (y : Result Ticked CoreFault) → 3 ≤ open_clocks t → TickOutcome s n r t (ticked_state t) y → StepOutcome s n r (ticked_state t) (last_answer (advanced_by t y))
+  last_law : (t : State) (y : Result Ticked CoreFault) → 3 ≤ open_clocks t → TickOutcome s n r t (ticked_state t) y → StepOutcome s n r (ticked_state t) (last_answer t y)
   last_law t (Ok x) h law = last_by t x.retired h law
   last_law t (Err f) h law = law
 
@@ -53,7 +54,7 @@ module _ (s : Start) (n : ℕ) (r : Run) where
 
   on_law : (t : State) (y : Result Ticked CoreFault) (k : ℕ) → TickOutcome s n r t (ticked_state t) y →
       ((u : State) → Sound s n r u → open_clocks u ≡ suc (open_clocks t) → StepOutcome s n r (stepped_for k u) (step_answer_for k u)) →
-      StepOutcome s n r (stepped_on (advanced_by t y) (ticked_state t) (stepped_for k (ticked_state t))) (step_answer_on (advanced_by t y) (step_answer_for k (ticked_state t)))
+      StepOutcome s n r (stepped_on y (ticked_state t) (stepped_for k (ticked_state t))) (step_answer_on t y (step_answer_for k (ticked_state t)))
   on_law t (Ok x) k law go = on_by t x.retired k law go
   on_law t (Err f) k law go = law
 
@@ -110,7 +111,7 @@ module _ (s : Start) (n : ℕ) (r : Run) (k q : ℕ) (there : after s.kinds s.ar
   -- none is open: the newest entry is taken back
   took : (j : List Entry) (t i d a : ℕ) (f : Bool) → k ≡ (3 * n + r.longs + 0) % 2 ^ 64 → Past s j n r →
       (let u : State = record { core = between r.arch t i d a f; journal = j; clocks = k; retired = q; kinds = s.kinds; words = r.arch.words } in
-      Lives s (back_count n (took_answer j)) (took_back u j))
+      Lives s (back_count n (took_answer (popped j))) (took_back u (popped j)))
   took [] t i d a f clk p = (r, sound _ [] k q 0 there (idle t i d a f) clk ret tt fit)
   took (e ∷ es) t i d a f clk p =
       let m = p.0 in let r' = p.1 in let c = p.2 in let undo = p.6 in
@@ -125,7 +126,7 @@ module _ (s : Start) (n : ℕ) (r : Run) (k q : ℕ) (there : after s.kinds s.ar
       let u : State = record { core = between r.arch t i d a f; journal = e ∷ es; clocks = k; retired = q; kinds = s.kinds; words = r.arch.words } in
       let v : State = record { core = between r'.arch 0 0 0 0 false; journal = es; clocks = k'; retired = q'; kinds = s.kinds; words = r'.arch.words } in
       let here : Sound s m r' v = sound _ es k' q' 0 p.4 (idle 0 0 0 0 false) clk' ret' p.8 p.5 in
-      let same : v ≡ took_back u (e ∷ es) =
+      let same : v ≡ took_back u (Some e) =
       λ i'. record {
         core = record { registers = record { numbers = sym undo.registers i' }; pc = sym undo.address i'; tr = 0; ir = 0; dr = 0; ar = 0; flg = false; phase = T0 };
         journal = es;
@@ -134,7 +135,7 @@ module _ (s : Start) (n : ℕ) (r : Run) (k q : ℕ) (there : after s.kinds s.ar
         kinds = s.kinds;
         words = sym undo.words i';
       } in
-      (r', subst (λ (z : ℕ). Sound s z r' (took_back u (e ∷ es))) less (subst (Sound s m r') same here))
+      (r', subst (λ (z : ℕ). Sound s z r' (took_back u (Some e))) less (subst (Sound s m r') same here))
 
   -- one is open: it is dropped
   shut : (j : List Entry) (c : Datapath) (g : ℕ) → phase_number c.phase ≡ g → k ≡ (3 * n + r.longs + g) % 2 ^ 64 → Past s j n r →

@@ -1,5 +1,5 @@
-mod Loops
 mod Undo
 mod Sound
+mod Loops
 mod Laws
 pub mod Keeps

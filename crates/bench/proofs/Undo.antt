@@ -1,5 +1,5 @@
 -- The entry of a retired instruction takes it back.
-use Rattle.std.proofs.Common.{◌≡◌, ℕ, ◌+◌, ◌*◌, ◌/◌, ◌^◌, ◌<◌, Bool, true, false, cond, eqb, ltb, List, get_or, set, Some, None, Ok, Err, Option, Result, sym, refl, ap, ◌∙◌, subst, arith, set-set}
+use Rattle.std.proofs.Common.{◌≡◌, ℕ, ◌+◌, ◌/◌, ◌^◌, ◌<◌, Bool, true, false, cond, eqb, ltb, List, get_or, set, Some, None, Ok, Err, Option, Result, sym, refl, ap, ◌∙◌, subst, arith, set-set}
 use mathlib.Core.Path.{fun_ext}
 use lib.Seq.{set-get_or}
 use Rattle.std.proofs.lemmas.Bool.{eqb-true}
@@ -55,26 +55,13 @@ lane_back mask v w i h = by_flag (named i mask) refl
     by_flag true e = refl
     by_flag false e = (each_lane mask v w).1 i h ∙ ap (λ (b : Bool). cond b (lane i v) (lane i w)) e
 
-put_together : (w q1 q2 q3 a b c d : ℕ) → w ≡ 2 ^ 8 * q1 + a → q1 ≡ 2 ^ 8 * q2 + b → q2 ≡ 2 ^ 8 * q3 + c → q3 ≡ d → of_lanes a b c d ≡ w
-put_together w q1 q2 q3 a b c d e f g h = omega arith
-
 whole : (w : ℕ) → w < 2 ^ 32 → of_lanes (lane 0 w) (lane 1 w) (lane 2 w) (lane 3 w) ≡ w
-whole w h =
-    let q1 : w / 2 ^ 16 ≡ w / 2 ^ 8 / 2 ^ 8 = omega arith in
-    let q2 : w / 2 ^ 24 ≡ w / 2 ^ 16 / 2 ^ 8 = omega arith in
-    let l0 : w ≡ 2 ^ 8 * (w / 2 ^ 8) + lane 0 w = omega arith in
-    let l1 : w / 2 ^ 8 ≡ 2 ^ 8 * (w / 2 ^ 16) + lane 1 w = omega arith in
-    let l2 : w / 2 ^ 16 ≡ 2 ^ 8 * (w / 2 ^ 24) + lane 2 w = omega arith in
-    let l3 : w / 2 ^ 24 ≡ lane 3 w = omega arith in
-    put_together w (w / 2 ^ 8) (w / 2 ^ 16) (w / 2 ^ 24) _ _ _ _ l0 l1 l2 l3
+whole w h = omega arith
 
 merge_back : (mask v w : ℕ) → w < 2 ^ 32 → merged mask w (merged mask v w) ≡ w
 merge_back mask v w h =
-    let l0 = lane_back mask v w 0 (omega arith) in
-    let l1 = lane_back mask v w 1 (omega arith) in
-    let l2 = lane_back mask v w 2 (omega arith) in
-    let l3 = lane_back mask v w 3 (omega arith) in
-    (λ i. of_lanes (l0 i) (l1 i) (l2 i) (l3 i)) ∙ whole w h
+    let l = lane_back mask v w in
+    (λ i. of_lanes (l 0 (omega arith) i) (l 1 (omega arith) i) (l 2 (omega arith) i) (l 3 (omega arith) i)) ∙ whole w h
 
 module _ (K : ℕ → Kind) (W : ℕ → ℕ) (k v mask : ℕ) (fit : Fit W) where
   -- the words after a store, with its lanes put back

@@ -1,10 +1,11 @@
 -- What each call of a bench answers and leaves.
-use Rattle.std.specs.Prelude.{ℕ, zero, suc, ◌+◌, ◌-◌, ◌%◌, ◌^◌, Bool, true, false, cond, List, [], ◌∷◌, take, Ok, Err, Result, nat_lt}
+use Rattle.std.specs.Prelude.{ℕ, zero, suc, ◌+◌, ◌-◌, ◌%◌, ◌^◌, Bool, true, false, cond, List, [], ◌∷◌, take, Some, None, Ok, Err, Option, Result, nat_lt}
 use Rattle.arch1.specs.Clock as core
 use Rattle.arch1.specs.Datapath.{Datapath}
 use Rattle.arch1.specs.Phases.{phase_number}
 use Rattle.arch1.specs.declared.phase.CoreFault.{CoreFault}
 use Rattle.arch1.specs.declared.phase.Ticked.{Ticked}
+use Rattle.journal.specs.Ring.{popped, remaining}
 use Rattle.journal.specs.declared.entry.Entry.{Entry}
 use Rattle.memory.specs.declared.kind.Kind.{Kind}
 use Rattle.registers.specs.declared.file.RegisterFile.{RegisterFile}
@@ -15,7 +16,6 @@ use Rattle.bench.specs.declared.answers.BackFault.TheVariants.{NothingToTakeBack
 use Rattle.bench.specs.declared.answers.RunFault.{RunFault}
 use Rattle.bench.specs.declared.answers.Stepped.{Stepped}
 use Rattle.bench.specs.declared.answers.Stop.TheVariants as stop
-use Rattle.bench.specs.declared.tick.Advanced.{Advanced}
 
 -- the counters count modulo 2 ^ 64
 abbrev pub up : ℕ → ℕ → ℕ
@@ -75,37 +75,37 @@ ticked_by s (Err f) = record {
 abbrev pub ticked_state : State → State
 ticked_state s = ticked_by s (tick_answer s)
 
--- with the instruction as the journal keeps it
-abbrev pub advanced_by : State → Result Ticked CoreFault → Result Advanced CoreFault
-advanced_by s (Ok t) = Ok (record { ticked = t; entry = entry s })
+-- the instruction that a clock retired, as the journal keeps it
+abbrev pub advanced_by : State → Result Ticked CoreFault → Result (Option Entry) CoreFault
+advanced_by s (Ok t) = Ok (cond t.retired (Some (entry s)) None)
 advanced_by s (Err f) = Err f
 
-abbrev pub advanced : State → Result Advanced CoreFault
+abbrev pub advanced : State → Result (Option Entry) CoreFault
 advanced s = advanced_by s (tick_answer s)
 
 -- step: clocks up to the first that retires an instruction or is refused, at most k and one more
 abbrev pub stepped_of : Entry → Stepped
 stepped_of e = record { address = e.address; word = e.word; clocks = e.clocks }
 
-abbrev pub last_answer : Result Advanced CoreFault → Result Stepped CoreFault
-last_answer (Ok x) = Ok (stepped_of x.entry)
-last_answer (Err f) = Err f
+abbrev pub last_answer : State → Result Ticked CoreFault → Result Stepped CoreFault
+last_answer s (Ok t) = Ok (stepped_of (entry s))
+last_answer s (Err f) = Err f
 
-abbrev pub step_answer_on : Result Advanced CoreFault → Result Stepped CoreFault → Result Stepped CoreFault
-step_answer_on (Ok x) next = cond x.ticked.retired (Ok (stepped_of x.entry)) next
-step_answer_on (Err f) next = Err f
+abbrev pub step_answer_on : State → Result Ticked CoreFault → Result Stepped CoreFault → Result Stepped CoreFault
+step_answer_on s (Ok t) next = cond t.retired (Ok (stepped_of (entry s))) next
+step_answer_on s (Err f) next = Err f
 
-abbrev pub stepped_on : Result Advanced CoreFault → State → State → State
-stepped_on (Ok x) s next = cond x.ticked.retired s next
+abbrev pub stepped_on : Result Ticked CoreFault → State → State → State
+stepped_on (Ok t) s next = cond t.retired s next
 stepped_on (Err f) s next = s
 
 unfoldable pub step_answer_for : ℕ → State → Result Stepped CoreFault
-step_answer_for zero s = last_answer (advanced s)
-step_answer_for (suc k) s = step_answer_on (advanced s) (step_answer_for k (ticked_state s))
+step_answer_for zero s = last_answer s (tick_answer s)
+step_answer_for (suc k) s = step_answer_on s (tick_answer s) (step_answer_for k (ticked_state s))
 
 unfoldable pub stepped_for : ℕ → State → State
 stepped_for zero s = ticked_state s
-stepped_for (suc k) s = stepped_on (advanced s) (ticked_state s) (stepped_for k (ticked_state s))
+stepped_for (suc k) s = stepped_on (tick_answer s) (ticked_state s) (stepped_for k (ticked_state s))
 
 abbrev pub step_answer : State → Result Stepped CoreFault
 step_answer s = step_answer_for 3 s
@@ -114,10 +114,6 @@ abbrev pub stepped_state : State → State
 stepped_state s = stepped_for 3 s
 
 -- run: k steps after `done` others, up to the first that is refused
-abbrev pub answer_after_steps : ℕ → Result Stepped CoreFault → Result Stepped RunFault
-answer_after_steps done (Ok x) = Ok x
-answer_after_steps done (Err f) = Err (record { done = done; stop = stop.Core f })
-
 abbrev pub run_answer_on : ℕ → Result Stepped CoreFault → Result ℕ RunFault → Result ℕ RunFault
 run_answer_on done (Ok x) next = next
 run_answer_on done (Err f) next = Err (record { done = done; stop = stop.Core f })
@@ -163,16 +159,17 @@ put_back e s = record {
   words = undone_words s.kinds s.words e.overwritten;
 }
 
-abbrev pub took_back : State → List Entry → State
-took_back s [] = s
-took_back s (e ∷ es) = put_back e (record { core = s.core; journal = es; clocks = s.clocks; retired = s.retired; kinds = s.kinds; words = s.words })
+-- the newest of the journal, if it holds one
+abbrev pub took_back : State → Option Entry → State
+took_back s None = s
+took_back s (Some e) = put_back e (record { core = s.core; journal = remaining s.journal; clocks = s.clocks; retired = s.retired; kinds = s.kinds; words = s.words })
 
-abbrev pub took_answer : List Entry → Result ℕ BackFault
-took_answer [] = Err NothingToTakeBack
-took_answer (e ∷ es) = Ok 1
+abbrev pub took_answer : Option Entry → Result ℕ BackFault
+took_answer None = Err NothingToTakeBack
+took_answer (Some e) = Ok 1
 
 abbrev pub back_state : State → State
-back_state s = cond (nat_lt 0 (open_clocks s)) (closed_state s) (took_back s s.journal)
+back_state s = cond (nat_lt 0 (open_clocks s)) (closed_state s) (took_back s (popped s.journal))
 
 abbrev pub back_answer : State → Result ℕ BackFault
-back_answer s = cond (nat_lt 0 (open_clocks s)) (Ok 0) (took_answer s.journal)
+back_answer s = cond (nat_lt 0 (open_clocks s)) (Ok 0) (took_answer (popped s.journal))

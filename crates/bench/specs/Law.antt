@@ -4,6 +4,7 @@ use Rattle.arch1.specs.declared.phase.CoreFault.{CoreFault}
 use Rattle.arch1.specs.declared.phase.Phase.TheVariants.{T0}
 use Rattle.arch1.specs.declared.phase.Ticked.{Ticked}
 use Rattle.machine.specs.Machine.{Arch, Step, went, cannot, stepped, fetched_word, Run, after, long}
+use Rattle.memory.specs.declared.interfaces.ReadMemory.{Ghosts}
 use Rattle.memory.specs.declared.kind.Kind.{Kind}
 use Rattle.registers.specs.declared.file.RegisterFile.{RegisterFile}
 use Rattle.bench.specs.Calls.{open_clocks, new_state, tick_answer, ticked_state, step_answer, stepped_state, run_answer, ran_state, back_answer, back_state}
@@ -20,6 +21,10 @@ pub record Start : Type 0 where
 
 abbrev pub start_of : (K : ℕ → Kind) (W : ℕ → ℕ) → ((k : ℕ) → W k < 2 ^ 32) → RegisterFile → ℕ → Start
 start_of K W fits rs p = record { kinds = K; arch = record { pc = p; registers = rs.numbers; words = W }; fits = fits }
+
+-- of a new bench over a memory with this meaning
+abbrev pub start_over : {M : Type 0} → Ghosts M → M → RegisterFile → ℕ → Start
+start_over m memory rs p = start_of (m.kinds memory) (m.words memory) (m.fits memory) rs p
 
 -- a step tried next is refused exactly where the next instruction, at a, cannot be carried out, with its address and first cause;
 -- else it answers the instruction's address, its word and its clocks
@@ -74,7 +79,24 @@ pub record Kept (count : ℕ → ℕ) (t u : State) : Type 0 where
   pub reached : (s : Start) (n : ℕ) → Reached s n t → Reached s (count n) u
   pub stands : (s : Start) (n : ℕ) → Reached s n t → Stands s (count n) u
 
+-- by the answer of each call
+unfoldable pub TickKept : Result Ticked CoreFault → State → State → Type 0
+TickKept r t u = Kept (λ n. tick_count n r) t u
+
+unfoldable pub StepKept : Result Stepped CoreFault → State → State → Type 0
+StepKept r t u = Kept (λ n. step_count n r) t u
+
+unfoldable pub RunKept : Result ℕ RunFault → State → State → Type 0
+RunKept r t u = Kept (λ n. run_count n r) t u
+
+unfoldable pub BackKept : Result ℕ BackFault → State → State → Type 0
+BackKept r t u = Kept (λ n. back_count n r) t u
+
 -- a new bench of s
 pub record Begins (s : Start) (t : State) : Type 0 where
   pub reached : Reached s 0 t
   pub stands : Stands s 0 t
+
+-- a new bench over a memory with this meaning
+unfoldable pub BeginsOver : {M : Type 0} → Ghosts M → M → RegisterFile → ℕ → State → Type 0
+BeginsOver m memory rs p t = Begins (start_over m memory rs p) t

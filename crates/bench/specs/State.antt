@@ -3,6 +3,7 @@ use Rattle.std.specs.Prelude.{ℕ, List}
 use Rattle.arch1.specs.Datapath.{Datapath, datapath_of}
 use Rattle.journal.specs.Ring.{listed}
 use Rattle.journal.specs.declared.entry.Entry.{Entry}
+use Rattle.memory.specs.declared.interfaces.ReadMemory.{Ghosts}
 use Rattle.memory.specs.declared.kind.Kind.{Kind}
 use Rattle.bench.specs.declared.bench.Bench.{Bench}
 
@@ -14,12 +15,13 @@ pub record State : Type 0 where
   pub kinds : ℕ → Kind
   pub words : ℕ → ℕ
 
-abbrev pub state_of : {M : Type 0} → (M → ℕ → Kind) → (M → ℕ → ℕ) → Bench M → State
-state_of K W b = record {
+-- the state of a bench over a memory with this meaning
+abbrev pub state_of : {M : Type 0} → Ghosts M → Bench M → State
+state_of m b = record {
   core = datapath_of b.core;
   journal = listed b.journal;
   clocks = b.clocks;
   retired = b.retired;
-  kinds = K b.memory;
-  words = W b.memory;
+  kinds = m.kinds b.memory;
+  words = m.words b.memory;
 }

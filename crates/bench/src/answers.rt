@@ -1,15 +1,30 @@
 ghost use Rattle.std.specs.Prelude.{◌≡◌};
+ghost use Rattle.bench.specs.Calls.{stepped_of};
 ghost use Rattle.bench.specs.Numbers.{stop_number, back_number};
 ghost use Rattle.bench.specs.declared.answers.Stop.TheVariants.{Core};
 
 use arch1::CoreFault;
+use journal::Entry;
 
 /// What a step answers: the address and the word of the instruction, and all its clocks.
-#[derive(Clone, Copy)]
+#[derive(Clone, Copy, PartialEq, Eq, Debug)]
 pub struct Stepped {
     pub address: u32,
     pub word: u32,
     pub clocks: u64,
+}
+
+/// What a step says of the instruction that it retired.
+impl From<Entry> for Stepped {
+    ghost from_gives = { λ e s. s ≡ stepped_of e };
+
+    fn from(entry: Entry) -> Stepped {
+        Stepped {
+            address: entry.address,
+            word: entry.word,
+            clocks: entry.clocks,
+        }
+    }
 }
 
 /// Why a run stops before its last step.
@@ -49,8 +64,18 @@ pub struct RunFault {
     pub stop: Stop,
 }
 
+impl RunFault {
+    // A step was refused, with so many done before it.
+    pub(super) fn after(done: u32, fault: CoreFault) -> RunFault
+        ensures { result ≡ record { done = done; stop = Core fault } }
+    {
+        let stop = Stop::from(fault);
+        RunFault { done, stop }
+    }
+}
+
 /// Why an instruction cannot be taken back.
-#[derive(Clone, Copy)]
+#[derive(Clone, Copy, PartialEq, Eq, Debug)]
 pub enum BackFault {
     /// None is open, and the journal is empty.
     NothingToTakeBack,

@@ -2,6 +2,7 @@ use arch1::Core;
 use journal::Journal;
 
 /// A core over a memory, the journal of the newest retired instructions, and the counters of clocks and of retired instructions.
+// Clauses see it through `state_of` (specs/State) and not by a model: a model's value has to be data, and the kinds and the words of a memory are functions.
 #[derive(Drop)]
 pub struct Bench<M> {
     pub(super) core: Core,

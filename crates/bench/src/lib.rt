@@ -5,7 +5,6 @@
 mod answers;
 mod back;
 mod bench;
-mod calls;
 mod look;
 mod new;
 mod overwritten;

@@ -8,7 +8,7 @@ use bits::field;
 use memory::{MemoryFault, ReadMemory};
 
 /// What a look is at.
-#[derive(Clone, Copy)]
+#[derive(Clone, Copy, PartialEq, Eq, Debug)]
 pub enum Look {
     /// A register by its number.
     Register(u8),
@@ -64,7 +64,7 @@ impl From<MemoryFault> for LookFault {
 impl<M: ReadMemory> Bench<M> {
     // The byte at an address.
     fn byte(&self, address: u32) -> Result<u64, LookFault>
-        ensures { result ≡ byte_answer address (state_of M.ReadMemory.kinds M.ReadMemory.words self.now) }
+        ensures { result ≡ byte_answer address (state_of M.ReadMemory self.now) }
     {
         let word = self.memory.read(address / 4)?;
         Ok(u64::from(field(word, 8 * (address % 4), 8)))
@@ -72,7 +72,7 @@ impl<M: ReadMemory> Bench<M> {
 
     /// Shows a register, a byte, a field of the core, a counter or the length of the journal. Refuses 8 for a register above 31, and 2 for a byte of an absent word.
     pub fn look(&self, at: Look) -> Result<u64, LookFault>
-        ensures { result ≡ look_answer at (state_of M.ReadMemory.kinds M.ReadMemory.words self.now) }
+        ensures { result ≡ look_answer at (state_of M.ReadMemory self.now) }
     {
         let core = &self.core;
         Ok(match at {

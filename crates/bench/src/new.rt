@@ -1,5 +1,6 @@
 ghost use Rattle.std.specs.Prelude.{◌≡◌};
 ghost use Rattle.bench.specs.Calls.{new_state};
+ghost use Rattle.bench.specs.Law.{BeginsOver};
 ghost use Rattle.bench.specs.State.{state_of};
 
 use super::bench::Bench;
@@ -9,10 +10,12 @@ use memory::WriteMemory;
 use registers::RegisterFile;
 
 impl<M: WriteMemory> Bench<M> {
-    // A bench with nothing done yet.
-    pub(super) fn fresh(memory: M, registers: RegisterFile, pc: u32) -> Bench<M>
-        ensures state { state_of M.ReadMemory.kinds M.ReadMemory.words result ≡ new_state (M.ReadMemory.kinds memory) (M.ReadMemory.words memory) registers pc }
+    /// A bench over this memory, with these registers, at this PC. No instruction is open, and the counters and the journal are empty.
+    #[tactic(auto, using(crate::proofs::Keeps::begins_over))]
+    pub fn new(memory: M, registers: RegisterFile, pc: u32) -> Bench<M>
+        ensures state { state_of M.ReadMemory result ≡ new_state (M.ReadMemory.kinds memory) (M.ReadMemory.words memory) registers pc }
         ensures memory { result.memory ≡ memory }
+        ensures law { BeginsOver M.ReadMemory memory registers pc (state_of M.ReadMemory result) }
     {
         Bench {
             core: Core::new(registers, pc),

@@ -1,38 +1,25 @@
 ghost use Rattle.std.specs.Prelude.{◌≡◌};
-ghost use Rattle.bench.specs.Calls.{step_answer, stepped_state, stepped_of};
+ghost use Rattle.bench.specs.Calls.{step_answer, stepped_state};
+ghost use Rattle.bench.specs.Law.{StepKept};
 ghost use Rattle.bench.specs.State.{state_of};
 
 use super::answers::Stepped;
 use super::bench::Bench;
 use arch1::CoreFault;
-use journal::Entry;
 use memory::WriteMemory;
 
-// What a step says of the instruction.
-fn stepped(entry: Entry) -> Stepped
-    ensures { result ≡ stepped_of entry }
-{
-    Stepped {
-        address: entry.address,
-        word: entry.word,
-        clocks: entry.clocks,
-    }
-}
-
 impl<M: WriteMemory> Bench<M> {
-    // Clocks until one instruction retires. None takes more than four, so that after three only the last one is left.
-    pub(super) fn finish(&mut self) -> Result<Stepped, CoreFault>
-        ensures answer { result ≡ step_answer (state_of M.ReadMemory.kinds M.ReadMemory.words self.old) }
-        ensures state { state_of M.ReadMemory.kinds M.ReadMemory.words self.new ≡ stepped_state (state_of M.ReadMemory.kinds M.ReadMemory.words self.old) }
+    /// Ticks until one instruction retires, the open one if there is one: answers its address, its word and all its clocks. Its refusals are those of its ticks.
+    pub fn step(&mut self) -> Result<Stepped, CoreFault>
+        ensures answer { result ≡ step_answer (state_of M.ReadMemory self.old) }
+        ensures state { state_of M.ReadMemory self.new ≡ stepped_state (state_of M.ReadMemory self.old) }
         ensures rest { M.WriteMemory.rest self.new.memory ≡ M.WriteMemory.rest self.old.memory }
+        ensures law { StepKept result (state_of M.ReadMemory self.old) (state_of M.ReadMemory self.new) }
     {
-        for done in 0..3u8 {
-            let advanced = self.advance()?;
-            if advanced.ticked.retired {
-                return Ok(stepped(advanced.entry));
+        loop {
+            if let Some(entry) = self.advance()? {
+                return Ok(entry.into());
             }
         }
-        let advanced = self.advance()?;
-        Ok(stepped(advanced.entry))
     }
 }

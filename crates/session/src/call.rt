@@ -2,7 +2,7 @@ use arch1::{CoreFault, Ticked};
 use bench::{BackFault, Look, LookFault, RunFault, Stepped};
 
 /// A call of a bench.
-#[derive(Clone, Copy)]
+#[derive(Clone, Copy, PartialEq, Eq, Debug)]
 pub enum Call {
     Tick,
     Step,

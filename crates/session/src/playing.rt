@@ -1,5 +1,5 @@
 ghost use Rattle.std.specs.Prelude.{◌≡◌, min, length, take, drop};
-ghost use Rattle.bench.specs.Law.{start_of};
+ghost use Rattle.bench.specs.Law.{start_over};
 ghost use Rattle.bench.specs.State.{state_of};
 ghost use Rattle.session.specs.Lists.{answered, called, answers, played};
 ghost use Rattle.session.specs.Lawful.{Lawful};
@@ -11,8 +11,8 @@ use registers::RegisterFile;
 
 // Makes one call.
 fn make<M: WriteMemory>(bench: &mut Bench<M>, call: Call) -> Answer
-    ensures answer { result ≡ answered call (state_of M.ReadMemory.kinds M.ReadMemory.words bench.old) }
-    ensures state { state_of M.ReadMemory.kinds M.ReadMemory.words bench.new ≡ called call (state_of M.ReadMemory.kinds M.ReadMemory.words bench.old) }
+    ensures answer { result ≡ answered call (state_of M.ReadMemory bench.old) }
+    ensures state { state_of M.ReadMemory bench.new ≡ called call (state_of M.ReadMemory bench.old) }
     ensures rest { M.WriteMemory.rest bench.new.memory ≡ M.WriteMemory.rest bench.old.memory }
 {
     match call {
@@ -24,15 +24,16 @@ fn make<M: WriteMemory>(bench: &mut Bench<M>, call: Call) -> Answer
     }
 }
 
-// Makes calls one after another, as many as there are places for their answers.
+// Makes calls one after another, as many as there are places for their answers. The caller lends the places: there is no heap here.
 fn make_all<M: WriteMemory>(bench: &mut Bench<M>, calls: &[Call], places: &mut [Answer]) -> usize
     ensures count { result ≡ min (length calls.now) (length places.old) }
-    ensures answers { take result places.new ≡ answers (state_of M.ReadMemory.kinds M.ReadMemory.words bench.old) (take result calls.now) }
+    ensures answers { take result places.new ≡ answers (state_of M.ReadMemory bench.old) (take result calls.now) }
     ensures later { drop result places.new ≡ drop result places.old }
-    ensures state { state_of M.ReadMemory.kinds M.ReadMemory.words bench.new ≡ played (state_of M.ReadMemory.kinds M.ReadMemory.words bench.old) (take result calls.now) }
+    ensures state { state_of M.ReadMemory bench.new ≡ played (state_of M.ReadMemory bench.old) (take result calls.now) }
     ensures rest { M.WriteMemory.rest bench.new.memory ≡ M.WriteMemory.rest bench.old.memory }
 {
     let count = calls.len().min(places.len());
+    // By the index: once places are written through `iter_mut().zip(calls)`, a proof knows nothing of what they hold.
     for k in 0..count {
         places[k] = make(bench, calls[k]);
     }
@@ -51,7 +52,7 @@ pub fn play<M: WriteMemory>(
     ensures count { result.1 ≡ min (length calls.now) (length places.old) }
     ensures later { drop result.1 places.new ≡ drop result.1 places.old }
     ensures rest { M.WriteMemory.rest result.0.memory ≡ M.WriteMemory.rest memory }
-    ensures law { Lawful (start_of (M.ReadMemory.kinds memory) (M.ReadMemory.words memory) (M.ReadMemory.fits memory) registers pc) (take result.1 calls.now) (take result.1 places.new) (state_of M.ReadMemory.kinds M.ReadMemory.words result.0) }
+    ensures law { Lawful (start_over M.ReadMemory memory registers pc) (take result.1 calls.now) (take result.1 places.new) (state_of M.ReadMemory result.0) }
 {
     let mut bench = Bench::new(memory, registers, pc);
     let count = make_all(&mut bench, calls, places);

@@ -9,7 +9,7 @@ use Rattle.session.proofs.playing.make_all.Goals as goal
 pub loop-k-preserved : goal.loop-k-preserved
 loop-k-preserved g c =
     let m = g.M.ReadMemory in
-    let t = state_of m.kinds m.words c.args.bench.now in
+    let t = state_of m c.args.bench.now in
     let cs = c.args.calls.now in
     let places = c.loop-k.places in
     let k = c.loop-k.k in

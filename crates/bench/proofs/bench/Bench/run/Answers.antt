@@ -1,7 +1,48 @@
+use Rattle.std.proofs.Common.{◌≡◌, ℕ, ◌-◌, Ok, Err, sym, ap, ◌∙◌, arith, rules}
+use Rattle.std.proofs.lemmas.Result.{err_from_is_err_and}
 use Rattle.bench.proofs.Keeps.{run_kept}
+use Rattle.bench.proofs.Loops.{next_step, refused_step, no_step, few_steps, refusal_of}
+use Rattle.bench.specs.Calls.{run_answer_for, ran_for}
+use Rattle.bench.specs.State.{state_of}
+use Rattle.bench.specs.declared.answers.RunFault.{RunFault}
+use Rattle.bench.specs.declared.answers.Stop.TheVariants as stop
 use Rattle.bench.proofs.bench.Bench.run.Goals as goal
+
+pub returns-in_err-map_err : goal.returns-in_err-map_err
+returns-in_err-map_err g c =
+    let m = g.M.ReadMemory in
+    let n = c.args.n in
+    let inv = c.loop-done.invariant in
+    let e = c.step.ensures in
+    let y = err_from_is_err_and c.from_residual.result c.from_residual.ensures.1 in
+    let was = refusal_of c.step.result c.map_err.result _ c.in_err-map_err.field-0.0 c.in_err-map_err.was c.map_err.ensures.cases in
+    let gave : c.in_err-map_err.field-0.0 ≡ record { done = c.loop-done.done-counter; stop = stop.Core was.0 } = search (rules, was.2) in
+    let all = refused_step (state_of m c.loop-done.self) (state_of m c.step.new.self) c.loop-done.done-counter n (omega arith) e.state was.0 (sym e.answer ∙ was.1) in
+    let few = few_steps n (state_of m c.args.self.now) (omega arith) in
+    let told = y.1 ∙ ap (λ (f : RunFault). Err f) (y.2 ∙ gave) ∙ all.0 ∙ inv.answer ∙ few.0 in
+    let came = all.1 ∙ inv.state ∙ few.1 in
+    record { answer = told; state = came; rest = e.rest ∙ inv.rest; law = run_kept n _ _ _ told came }
+
+pub loop-done-preserved : goal.loop-done-preserved
+loop-done-preserved g c =
+    let m = g.M.ReadMemory in
+    let inv = c.loop-done.invariant in
+    let e = c.step.ensures in
+    let x = c.in_ok-map_err.field-0 in
+    let was : c.step.result ≡ Ok x = grind arith in
+    let all = next_step (state_of m c.loop-done.self) (state_of m c.step.new.self) c.loop-done.done-counter c.args.n (omega arith) e.state x (sym e.answer ∙ was) in
+    record { answer = all.0 ∙ inv.answer; state = all.1 ∙ inv.state; rest = e.rest ∙ inv.rest }
 
 pub returns : goal.returns
 returns g c =
-    let e = c.bounded_steps.ensures in
-    record { answer = e.answer; state = e.state; rest = e.rest; law = run_kept _ _ _ _ e.answer e.state }
+    let m = g.M.ReadMemory in
+    let s = state_of m c.loop-done.self in
+    let n = c.args.n in
+    let inv = c.loop-done.invariant in
+    let all_done : c.loop-done.done-counter ≡ n = omega arith in
+    let none_left : n - n ≡ 0 = omega arith in
+    let end = no_step n s in
+    let few = few_steps n (state_of m c.args.self.now) (omega arith) in
+    let told = sym (ap (λ (k : ℕ). run_answer_for k (n - k) s) all_done ∙ ap (λ (k : ℕ). run_answer_for n k s) none_left ∙ end.0) ∙ inv.answer ∙ few.0 in
+    let came = sym (ap (λ (k : ℕ). ran_for (n - k) s) all_done ∙ ap (λ (k : ℕ). ran_for k s) none_left ∙ end.1) ∙ inv.state ∙ few.1 in
+    record { answer = told; state = came; rest = inv.rest; law = run_kept n _ _ _ told came }

@@ -21,7 +21,7 @@ use Rattle.processor.specs.Accesses.{replied, word_in, written_in}
 use Rattle.processor.specs.declared.access.Reply.{Reply}
 use Rattle.bench.proofs.Sound.{phase_few}
 use Rattle.bench.specs.Calls.{open_clocks, tick_answer, ticked_by, ticked_state, entry, advanced_by, advanced, stepped_of, step_answer_for, stepped_for}
-use Rattle.bench.specs.Calls.{step_answer, stepped_state, run_answer_on, ran_on, run_answer_for, ran_for, run_answer, ran_state}
+use Rattle.bench.specs.Calls.{step_answer, stepped_state, run_answer_for, ran_for, run_answer, ran_state}
 use Rattle.bench.specs.State.{State}
 use Rattle.bench.specs.declared.answers.RunFault.{RunFault}
 use Rattle.bench.specs.declared.answers.Stepped.{Stepped}
@@ -88,23 +88,15 @@ module _ (c : Datapath) (r : Reply) where
   onward T2 = in_t2 (action_of_word c.ir)
   onward T3 = in_t3 (action_of_word c.ir)
 
--- what a clock of c that comes to o says: the next phase is the one that it leaves, and it comes after that of c
-settled_next : (c : Datapath) (o : Outcome) (t : Ticked) → core.answered c o ≡ Ok t → t.next ≡ (core.settled c o).phase
-settled_next c (goes d) t h = cc
-settled_next c (retires d) t h = cc
-settled_next c (refuses e) t h = cc
-
+-- what a clock of c that comes to o leaves
 settled_more : (n : ℕ) (c : Datapath) (o : Outcome) (t : Ticked) → Onward n o → core.answered c o ≡ Ok t → t.retired ≡ false → phase_number (core.settled c o).phase ≡ suc n
 settled_more n c (goes d) t go h e = go
-settled_more n c (retires d) t go h e = let z : true ≡ false = cc in cc
+settled_more n c (retires d) t go h e = cc
 settled_more n c (refuses f) t go h e = cc
 
 ticked_leaves : (s : State) (y : Result Ticked CoreFault) → (ticked_by s y).core ≡ core.ticked_core s.kinds s.words s.core
 ticked_leaves s (Ok t) = refl
 ticked_leaves s (Err f) = refl
-
-pub next_phase : (s : State) (t : Ticked) → tick_answer s ≡ Ok t → t.next ≡ (ticked_state s).core.phase
-next_phase s t h = settled_next s.core _ t h ∙ sym (ap (λ (d : Datapath). d.phase) (ticked_leaves s (tick_answer s)))
 
 more_clocks : (s : State) (t : Ticked) → tick_answer s ≡ Ok t → t.retired ≡ false → open_clocks (ticked_state s) ≡ suc (open_clocks s)
 more_clocks s t h e =
@@ -176,36 +168,25 @@ module _ (start s t : State) (here : t ≡ ticked_state s) where
       let next = ap open_clocks here ∙ more_clocks s told.0 told.1 on in
       (open_by left.more told.0 told.1 on left.enough left.answer left.state next, next)
 
--- a run with `done` steps behind it
+-- a run with `done` steps behind it, and the step from s to t
 module _ (s t : State) (done n : ℕ) (few : done < n) (here : t ≡ stepped_state s) where
-  run_by : (k : ℕ) (y : Result Stepped CoreFault) → step_answer s ≡ y → run_answer_for done (suc k) s ≡ run_answer_on done y (run_answer_for (done + 1) k (stepped_state s))
-  unfolding run_answer_for
-  run_by k y e = ap (λ (z : Result Stepped CoreFault). run_answer_on done z (run_answer_for (done + 1) k (stepped_state s))) e
-
-  ran_by : (k : ℕ) (y : Result Stepped CoreFault) → step_answer s ≡ y → ran_for (suc k) s ≡ ran_on y (stepped_state s) (ran_for k (stepped_state s))
-  unfolding ran_for
-  ran_by k y e = ap (λ (z : Result Stepped CoreFault). ran_on z (stepped_state s) (ran_for k (stepped_state s))) e
+  one_more : n - done ≡ suc (n - (done + 1))
+  one_more = omega arith
 
   pub next_step : (x : Stepped) → step_answer s ≡ Ok x →
       (run_answer_for (done + 1) (n - (done + 1)) t ≡ run_answer_for done (n - done) s) × (ran_for (n - (done + 1)) t ≡ ran_for (n - done) s)
-  next_step x e =
-      let k = n - (done + 1) in
-      let one : n - done ≡ suc k = omega arith in (
-        ap (run_answer_for (done + 1) k) here ∙ sym (ap (λ (j : ℕ). run_answer_for done j s) one ∙ run_by k (Ok x) e),
-        ap (ran_for k) here ∙ sym (ap (λ (j : ℕ). ran_for j s) one ∙ ran_by k (Ok x) e),
-      )
+  unfolding run_answer_for ran_for
+  next_step x e = (rw (one_more, e) (ap (run_answer_for (done + 1) (n - (done + 1))) here), rw (one_more, e) (ap (ran_for (n - (done + 1))) here))
 
   pub refused_step : (f : CoreFault) → step_answer s ≡ Err f →
       (Err (record { done = done; stop = stop.Core f }) ≡ run_answer_for done (n - done) s) × (t ≡ ran_for (n - done) s)
-  refused_step f e =
-      let k = n - (done + 1) in
-      let one : n - done ≡ suc k = omega arith in
-      (sym (ap (λ (j : ℕ). run_answer_for done j s) one ∙ run_by k (Err f) e), here ∙ sym (ap (λ (j : ℕ). ran_for j s) one ∙ ran_by k (Err f) e))
+  unfolding run_answer_for ran_for
+  refused_step f e = (rw (one_more, e) refl, rw (one_more, e) here)
 
 -- no step is left
-pub no_step : (done : ℕ) (s : State) → (run_answer_for done 0 s ≡ Ok done) × (ran_for 0 s ≡ s)
+pub no_step : (done n : ℕ) (s : State) → done ≡ n → (Ok n ≡ run_answer_for done (n - done) s) × (s ≡ ran_for (n - done) s)
 unfolding run_answer_for ran_for
-no_step done s = (refl, refl)
+no_step done n s e = let none : n - done ≡ 0 = omega arith in (rw none (ap (λ (k : ℕ). Ok k) (sym e)), rw none refl)
 
 -- not too many steps for one run
 pub few_steps : (n : ℕ) (s : State) → n ≤ 1000000 → (run_answer_for 0 n s ≡ run_answer n s) × (ran_for n s ≡ ran_state n s)

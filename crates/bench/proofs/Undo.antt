@@ -33,7 +33,7 @@ use Rattle.arch1.specs.Owes.{between, within, Owes, idle, fetched, decoded, load
 use Rattle.arch1.specs.Transfers.{access_in, executes, finishes, fetches, loads, stores, refuses}
 use Rattle.arch1.specs.declared.phase.Phase.TheVariants.{T2, T3}
 use Rattle.journal.specs.declared.entry.Entry.{Entry}
-use Rattle.bench.specs.Entries.{entry_of, old_bytes_in, overwritten_in_t2, overwritten_in_t3, undone_registers, undone_words}
+use Rattle.bench.specs.Entries.{entry_of, old_register, old_bytes_in, overwritten_in_t2, overwritten_in_t3, undone_registers, undone_words}
 
 -- every word has 32 bits
 abbrev pub Fit : (ℕ → ℕ) → Type 0
@@ -111,6 +111,11 @@ module _ (K : ℕ → Kind) (a : Arch) (fit : Fit a.words) where
     not_load address k true = not_loaded address (read_of k (K k) (a.words k))
     not_load address k false = tt
 
+  -- an instruction that writes register rd
+  wrote : (w rd v p n : ℕ) (k : Class) → fetched_word K a ≡ Ok w → n ≡ 3 + long k →
+      Undoes K a (record { address = a.pc; word = w; clocks = n; overwritten = old_register (between a 0 0 0 0 false) rd }) (record { pc = p; registers = put_into a.registers rd v; words = a.words }) k
+  wrote w rd v p n k e took = record { address = refl; word = e; clocks = took; registers = register_back a.registers rd v; words = refl }
+
   -- T2 of a store
   store_back : (w d r : ℕ) (f : Bool) → fetched_word K a ≡ Ok w → (s : Store) (rs1 rs2 imm : ℕ) (kd : Kind) →
       (let c = within a w d r f T2 in
@@ -157,23 +162,23 @@ module _ (K : ℕ → Kind) (a : Arch) (fit : Fit a.words) where
       IfRetired (beat_of (answered c (executes c (replied K a.words (access_in c y)) y)))
       (Takes K a (record { address = a.pc; word = w; clocks = 3; overwritten = overwritten_in_t2 K a.words c y }) (carried K a y)))
   in_t2 w d r f e None = tt
-  in_t2 w d r f e (Some (Comp op rd rs1 rs2)) = record { address = refl; word = e; clocks = refl; registers = register_back a.registers rd _; words = refl }
-  in_t2 w d r f e (Some (CompI op rd rs1 imm)) = record { address = refl; word = e; clocks = refl; registers = register_back a.registers rd _; words = refl }
-  in_t2 w d r f e (Some (Lui rd imm)) = record { address = refl; word = e; clocks = refl; registers = register_back a.registers rd _; words = refl }
-  in_t2 w d r f e (Some (Auipc rd imm)) = record { address = refl; word = e; clocks = refl; registers = register_back a.registers rd _; words = refl }
+  in_t2 w d r f e (Some (Comp op rd rs1 rs2)) = wrote w rd _ _ _ _ e refl
+  in_t2 w d r f e (Some (CompI op rd rs1 imm)) = wrote w rd _ _ _ _ e refl
+  in_t2 w d r f e (Some (Lui rd imm)) = wrote w rd _ _ _ _ e refl
+  in_t2 w d r f e (Some (Auipc rd imm)) = wrote w rd _ _ _ _ e refl
   in_t2 w d r f e (Some (Ld l rd rs1 imm)) =
       let address = wrap (x a rs1 + imm) in
       not_load (within a w d r f T2) _ address (address / 4) (aligned address (machine.load_size l))
   in_t2 w d r f e (Some (St s rs1 rs2 imm)) = store_by w d r f e s rs1 rs2 imm (aligned (wrap (x a rs1 + imm)) (machine.store_size s))
-  in_t2 w d r f e (Some (Jal rd imm)) = record { address = refl; word = e; clocks = refl; registers = register_back a.registers rd _; words = refl }
-  in_t2 w d r f e (Some (Jalr rd rs1 imm)) = record { address = refl; word = e; clocks = refl; registers = register_back a.registers rd _; words = refl }
+  in_t2 w d r f e (Some (Jal rd imm)) = wrote w rd _ _ _ _ e refl
+  in_t2 w d r f e (Some (Jalr rd rs1 imm)) = wrote w rd _ _ _ _ e refl
   in_t2 w d r f e (Some (Br cmp rs1 rs2 imm)) = tt
 
   -- T3 of a load and of a branch
   in_t3_load : (w v : ℕ) (f : Bool) → fetched_word K a ≡ Ok w → (l : Load) (rd rs1 imm : ℕ) →
       (let c = within a w v (wrap (x a rs1 + imm)) f T3 in
       Takes K a (record { address = a.pc; word = w; clocks = 4; overwritten = overwritten_in_t3 c (Some (Ld l rd rs1 imm)) }) (machine.loads a l rd (wrap (x a rs1 + imm)) (Ok v)))
-  in_t3_load w v f e l rd rs1 imm = record { address = refl; word = e; clocks = refl; registers = register_back a.registers rd _; words = refl }
+  in_t3_load w v f e l rd rs1 imm = wrote w rd _ _ _ _ e refl
 
   in_t3_branch : (w d r : ℕ) → fetched_word K a ≡ Ok w → (cmp : Comparison) (rs1 rs2 imm : ℕ) →
       (let c = within a w d r (compared cmp (x a rs1) (x a rs2)) T3 in

@@ -1,8 +1,7 @@
-use Rattle.std.proofs.Common.{◌≡◌, ℕ, ◌-◌, Ok, Err, sym, ap, ◌∙◌, arith, rules}
+use Rattle.std.proofs.Common.{◌≡◌, Ok, Err, sym, ap, ◌∙◌, arith, rules}
 use Rattle.std.proofs.lemmas.Result.{err_from_is_err_and}
 use Rattle.bench.proofs.Keeps.{run_kept}
 use Rattle.bench.proofs.Loops.{next_step, refused_step, no_step, few_steps, refusal_of}
-use Rattle.bench.specs.Calls.{run_answer_for, ran_for}
 use Rattle.bench.specs.State.{state_of}
 use Rattle.bench.specs.declared.answers.RunFault.{RunFault}
 use Rattle.bench.specs.declared.answers.Stop.TheVariants as stop
@@ -36,13 +35,10 @@ loop-done-preserved g c =
 pub returns : goal.returns
 returns g c =
     let m = g.M.ReadMemory in
-    let s = state_of m c.loop-done.self in
     let n = c.args.n in
     let inv = c.loop-done.invariant in
-    let all_done : c.loop-done.done-counter ≡ n = omega arith in
-    let none_left : n - n ≡ 0 = omega arith in
-    let end = no_step n s in
+    let end = no_step c.loop-done.done-counter n (state_of m c.loop-done.self) (omega arith) in
     let few = few_steps n (state_of m c.args.self.now) (omega arith) in
-    let told = sym (ap (λ (k : ℕ). run_answer_for k (n - k) s) all_done ∙ ap (λ (k : ℕ). run_answer_for n k s) none_left ∙ end.0) ∙ inv.answer ∙ few.0 in
-    let came = sym (ap (λ (k : ℕ). ran_for (n - k) s) all_done ∙ ap (λ (k : ℕ). ran_for k s) none_left ∙ end.1) ∙ inv.state ∙ few.1 in
+    let told = end.0 ∙ inv.answer ∙ few.0 in
+    let came = end.1 ∙ inv.state ∙ few.1 in
     record { answer = told; state = came; rest = inv.rest; law = run_kept n _ _ _ told came }

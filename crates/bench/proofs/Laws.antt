@@ -13,7 +13,7 @@ use Rattle.arch1.specs.declared.phase.Phase.TheVariants.{T0, T1, T2, T3}
 use Rattle.arch1.specs.declared.phase.Ticked.{Ticked}
 use Rattle.journal.specs.Ring.{popped}
 use Rattle.journal.specs.declared.entry.Entry.{Entry}
-use Rattle.machine.specs.Machine.{Arch, Step, went, cannot, stepped, fetched_word, wrap, x, Run, after, long}
+use Rattle.machine.specs.Machine.{Arch, went, cannot, stepped, fetched_word, wrap, x, Run, after, long}
 use Rattle.memory.specs.declared.kind.Kind.{Kind}
 use Rattle.bench.proofs.Sound.{Past, Sound, sound, sound_new, TickBy, TickOutcome, tick_law, owes_phase, phase_few}
 use Rattle.bench.proofs.Undo.{Fit}
@@ -76,7 +76,7 @@ module _ (s : Start) (base : ℕ) where
       Lives s (run_count base (run_answer_on done y (run_answer_for (done + 1) k (stepped_state t)))) (ran_on y (stepped_state t) (ran_for k (stepped_state t)))
   run_on done k r t (Ok x) law go =
       let one : suc (base + done) ≡ base + (done + 1) = omega arith in
-      go (stepped_state t) law.0 (subst (λ (m : ℕ). Sound s m law.0 (stepped_state t)) one law.4)
+      go (stepped_state t) law.0 (rw one at law.4)
   run_on done k r t (Err f) law go = (r, law.2)
 
   run_law_for : (k done : ℕ) (r : Run) (t : State) → Sound s (base + done) r t → Lives s (run_count base (run_answer_for done k t)) (ran_for k t)
@@ -86,8 +86,8 @@ module _ (s : Start) (base : ℕ) where
 
 run_law_by : (s : Start) (n m : ℕ) (r : Run) (t : State) (b : Bool) → Sound s n r t →
     Lives s (run_count n (cond b (Err (record { done = 0; stop = stop.TooMany })) (run_answer_for 0 m t))) (cond b t (ran_for m t))
-run_law_by s n m r t true o = let same : n ≡ n + 0 = omega arith in (r, subst (λ (i : ℕ). Sound s i r t) same o)
-run_law_by s n m r t false o = let same : n ≡ n + 0 = omega arith in run_law_for s n m 0 r t (subst (λ (i : ℕ). Sound s i r t) same o)
+run_law_by s n m r t true o = let same : n + 0 ≡ n = omega arith in (r, rw same o)
+run_law_by s n m r t false o = let same : n + 0 ≡ n = omega arith in run_law_for s n m 0 r t (rw same o)
 
 pub run_lives : (s : Start) (n m : ℕ) (t : State) → Lives s n t → Lives s (run_count n (run_answer m t)) (ran_state m t)
 run_lives s n m t o = run_law_by s n m o.0 t (ltb 1000000 m) o.1
@@ -135,7 +135,7 @@ module _ (s : Start) (n : ℕ) (r : Run) (k q : ℕ) (there : after s.kinds s.ar
         kinds = s.kinds;
         words = sym undo.words i';
       } in
-      (r', subst (λ (z : ℕ). Sound s z r' (took_back u (Some e))) less (subst (Sound s m r') same here))
+      (r', rw (← less) (subst (Sound s m r') same here))
 
   -- one is open: it is dropped
   shut : (j : List Entry) (c : Datapath) (g : ℕ) → phase_number c.phase ≡ g → k ≡ (3 * n + r.longs + g) % 2 ^ 64 → Past s j n r →
@@ -143,13 +143,8 @@ module _ (s : Start) (n : ℕ) (r : Run) (k q : ℕ) (there : after s.kinds s.ar
       Lives s (n - 0) (closed_state (record { core = c; journal = j; clocks = k; retired = q; kinds = s.kinds; words = r.arch.words }))
   shut j c g h clk p e =
       let few = phase_few c.phase in
-      let same : n ≡ n - 0 = omega arith in
-      let k' = down k (phase_number c.phase) in (
-        r,
-        subst (λ (i : ℕ). Sound s i r (closed_state (record { core = c; journal = j; clocks = k; retired = q; kinds = s.kinds; words = r.arch.words }))) same
-            (subst (λ (y : Datapath). Sound s n r (record { core = y; journal = j; clocks = k'; retired = q; kinds = s.kinds; words = r.arch.words })) (sym e)
-            (sound _ j k' q 0 there (idle 0 0 0 0 false) (omega arith) ret p fit)),
-      )
+      let same : n - 0 ≡ n = omega arith in
+      (r, rw (same, e) (sound _ j (down k (phase_number c.phase)) q 0 there (idle 0 0 0 0 false) (omega arith) ret p fit))
 
   back_by : (j : List Entry) (c : Datapath) (g : ℕ) → Owes s.kinds r.arch g c → k ≡ (3 * n + r.longs + g) % 2 ^ 64 → Past s j n r →
       (let u : State = record { core = c; journal = j; clocks = k; retired = q; kinds = s.kinds; words = r.arch.words } in
@@ -190,8 +185,8 @@ new_lives s = (_, sound_new s)
 
 -- what is sound stands
 next_by : (s : Start) (n : ℕ) (r : Run) (u : State) (y : Result Stepped CoreFault) → StepOutcome s n r u y → Next s.kinds r.arch (stepped s.kinds r.arch) y
-next_by s n r u (Ok x) law = subst (λ (st : Step). Next s.kinds r.arch st (Ok x)) (sym law.2) law.3
-next_by s n r u (Err f) law = subst (λ (st : Step). Next s.kinds r.arch st (Err f)) (sym law.0) (law.1, refl)
+next_by s n r u (Ok x) law = rw law.2 law.3
+next_by s n r u (Err f) law = rw law.0 (law.1, refl)
 
 stands : (s : Start) (n : ℕ) (r : Run) (t : State) → Sound s n r t → Stands s n t
 stands s n r t (sound c j k q g there owes clk ret past fit) =

@@ -1,5 +1,5 @@
 -- What every call of a bench keeps: the core with the machine, the counters, and a journal that takes the instructions back.
-use Rattle.std.proofs.Common.{◌≡◌, ℕ, zero, suc, ◌+◌, ◌*◌, ◌/◌, ◌%◌, ◌^◌, ◌<◌, Bool, true, false, cond, eqb, List, [], ◌∷◌, take, Some, None, Ok, Err, Option, Result, sym, refl, ap, ◌∙◌, subst, arith}
+use Rattle.std.proofs.Common.{◌≡◌, ℕ, zero, suc, ◌+◌, ◌*◌, ◌/◌, ◌%◌, ◌^◌, ◌<◌, Bool, true, false, cond, eqb, List, [], ◌∷◌, take, Some, None, Ok, Err, Option, Result, refl, ap, ◌∙◌, subst, arith}
 use Rattle.isa.specs.declared.mnemonic.Class.{Class}
 use Rattle.isa.specs.declared.mnemonic.Class.TheVariants as class
 use Rattle.alu.specs.Stores as lanes
@@ -150,21 +150,20 @@ module _ (s : Start) (n : ℕ) (r : Run) (c : Datapath) (j : List Entry) (k q g 
       let r' : Run = record { arch = law.to; longs = r.longs + long law.by } in
       let e = entry_of s.kinds r.arch.words c in
       let cost = clocks_long law.by in
-      let took : Undoes s.kinds r.arch e law.to law.by = subst (Takes s.kinds r.arch e) law.step undo in
+      let took : Undoes s.kinds r.arch e law.to law.by = rw law.step at undo in
       let more : (3 * suc n + (r.longs + long law.by) + 0) ≡ 3 * n + r.longs + g + 1 = omega (arith, law.clocks) in (
         r',
         law.by,
         law.step,
         took,
-        subst (λ (w : ℕ → ℕ). Sound s (suc n) r' (record { core = d; journal = e ∷ take 255 j; clocks = up k 1; retired = up q 1; kinds = s.kinds; words = w })) (sym law.stored)
+        rw law.stored
             (sound d (e ∷ take 255 j) (up k 1) (up q 1) 0 (ap (onward s.kinds) there ∙ ap (onward_by r) law.step) law.owes (omega arith) (omega arith)
             (n, r, law.by, refl, there, fit, took, refl, past_take s 255 j n r past) (fit_step s.kinds r.arch fit law.to law.by law.step)),
       )
   by_flag false d W law undo =
       let here = owes_phase s.kinds r.arch g c owes in
       let next = owes_phase s.kinds r.arch (suc g) d law.0 in (
-        subst (λ (w : ℕ → ℕ). Sound s n r (record { core = d; journal = j; clocks = up k 1; retired = q; kinds = s.kinds; words = w })) (sym law.1)
-            (sound d j (up k 1) q (suc g) there law.0 (omega arith) ret past fit),
+        rw law.1 (sound d j (up k 1) q (suc g) there law.0 (omega arith) ret past fit),
         omega arith,
       )
 
@@ -178,12 +177,11 @@ module _ (s : Start) (n : ℕ) (r : Run) (c : Datapath) (j : List Entry) (k q g 
       let few = phase_few c.phase in (
         law.step,
         law.at,
-        subst (λ (w : ℕ → ℕ). Sound s n r (record { core = d; journal = j; clocks = down k (phase_number c.phase); retired = q; kinds = s.kinds; words = w })) (sym law.kept)
-            (sound d j (down k (phase_number c.phase)) q 0 there law.owes (omega arith) ret past fit),
+        rw law.kept (sound d j (down k (phase_number c.phase)) q 0 there law.owes (omega arith) ret past fit),
       )
 
 pub tick_law : (s : Start) (n : ℕ) (r : Run) (t : State) → Sound s n r t → TickOutcome s n r t (ticked_state t) (tick_answer t)
 tick_law s n r t (sound c j k q g there owes clk ret past fit) =
     let t : State = record { core = c; journal = j; clocks = k; retired = q; kinds = s.kinds; words = r.arch.words } in
-    subst (λ (u : State). TickOutcome s n r t u (tick_answer t)) (leaves_ticked t (tick_answer t))
+    rw (← leaves_ticked t (tick_answer t))
     (by_answer s n r c j k q g there owes clk ret past fit (tick_answer t) _ _ (every_clock s.kinds r.arch g c owes) (entry_takes_back s.kinds r.arch fit g c owes))

@@ -1,5 +1,5 @@
 -- The entry of a retired instruction takes it back.
-use Rattle.std.proofs.Common.{◌≡◌, ℕ, ◌+◌, ◌/◌, ◌^◌, ◌<◌, Bool, true, false, cond, eqb, ltb, List, get_or, set, Some, None, Ok, Err, Option, Result, sym, refl, ap, ◌∙◌, subst, arith, set-set}
+use Rattle.std.proofs.Common.{◌≡◌, ℕ, ◌+◌, ◌/◌, ◌^◌, ◌<◌, Bool, true, false, cond, eqb, ltb, List, get_or, set, Some, None, Ok, Err, Option, Result, sym, refl, ap, ◌∙◌, arith, set-set}
 use mathlib.Core.Path.{fun_ext}
 use lib.Seq.{set-get_or}
 use Rattle.std.proofs.lemmas.Bool.{eqb-true}
@@ -17,8 +17,7 @@ use Rattle.machine.specs.Machine.{Arch, Step, went, cannot, wrap, x, aligned, fe
 use Rattle.machine.specs.declared.cause.Cause.TheVariants.{UnalignedPc, UnalignedAddress}
 use Rattle.memory.proofs.FourLanes.{each_lane}
 use Rattle.memory.specs.Lanes.{lane, named, of_lanes, taken, merged}
-use Rattle.memory.specs.Meaning.{refused, read_of, allowed, patched}
-use Rattle.memory.specs.declared.fault.Cause.TheVariants.{BadMask}
+use Rattle.memory.specs.Meaning.{read_of, allowed, patched}
 use Rattle.memory.specs.declared.fault.MemoryFault.{MemoryFault}
 use Rattle.memory.specs.declared.kind.Kind.{Kind}
 use Rattle.memory.specs.declared.kind.Kind.TheVariants as kind
@@ -30,7 +29,7 @@ use Rattle.arch1.proofs.Patches.{mask_fits, opened}
 use Rattle.arch1.specs.Clock.{beat_of, answered, tick_answer}
 use Rattle.arch1.specs.Datapath.{Datapath}
 use Rattle.arch1.specs.Owes.{between, within, Owes, idle, fetched, decoded, loading, branching}
-use Rattle.arch1.specs.Transfers.{access_in, executes, finishes, fetches, loads, stores, refuses}
+use Rattle.arch1.specs.Transfers.{access_in, executes, fetches, loads, stores, refuses}
 use Rattle.arch1.specs.declared.phase.Phase.TheVariants.{T2, T3}
 use Rattle.journal.specs.declared.entry.Entry.{Entry}
 use Rattle.bench.specs.Entries.{entry_of, old_register, old_bytes_in, overwritten_in_t2, overwritten_in_t3, undone_registers, undone_words}
@@ -146,14 +145,7 @@ module _ (K : ℕ → Kind) (a : Arch) (fit : Fit a.words) where
       IfRetired (beat_of (answered c (cond b (stores c address (written_in (replied K a.words (cond b (access.Write k v mask) access.Nothing)))) (refuses UnalignedAddress))))
       (Takes K a (record { address = a.pc; word = w; clocks = 3; overwritten = old_bytes_in k mask (read_of k (K k) (a.words k)) })
       (machine.stores a s address (x a rs2) (cond b (machine.caused (allowed k (K k))) (Err UnalignedAddress)))))
-  store_by w d r f e s rs1 rs2 imm true =
-      let c = within a w d r f T2 in
-      let address = wrap (x a rs1 + imm) in
-      let k = address / 4 in
-      let mask = lanes.mask_of s address in
-      subst (λ (z : Bool). IfRetired (beat_of (answered c (stores c address (cond z (Err (refused BadMask k)) (allowed k (K k))))))
-      (Takes K a (record { address = a.pc; word = w; clocks = 3; overwritten = old_bytes_in k mask (read_of k (K k) (a.words k)) }) (machine.stores a s address (x a rs2) (machine.caused (allowed k (K k))))))
-      (sym (mask_fits s address)) (store_back w d r f e s rs1 rs2 imm (K k) refl)
+  store_by w d r f e s rs1 rs2 imm true = rw (mask_fits s (wrap (x a rs1 + imm))) (store_back w d r f e s rs1 rs2 imm (K (wrap (x a rs1 + imm) / 4)) refl)
   store_by w d r f e s rs1 rs2 imm false = tt
 
   -- T2, by the class
@@ -189,19 +181,6 @@ module _ (K : ℕ → Kind) (a : Arch) (fit : Fit a.words) where
       IfRetired (beat_of (tick_answer K a.words c)) (Takes K a (entry_of K a.words c) (stepped K a))
   entry_takes_back g c (idle t i d r f) = not_t0 (between a t i d r f) _ (a.pc / 4) (aligned a.pc 4)
   entry_takes_back g c (fetched i w r f e) = tt
-  entry_takes_back g c (decoded w d r f e) =
-      let c = within a w d r f T2 in
-      subst (λ (st : Step). IfRetired (beat_of (tick_answer K a.words c)) (Takes K a (entry_of K a.words c) st)) (sym (ap (carried_word K a) e)) (in_t2 w d r f e (action_of_word w))
-  entry_takes_back g c (loading w v f l rd rs1 imm e y h) =
-      let address = wrap (x a rs1 + imm) in
-      let c = within a w v address f T3 in
-      subst (λ (st : Step). IfRetired (beat_of (answered c (finishes c (action_of_word w)))) (Takes K a (entry_of K a.words c) st))
-      (sym (ap (carried_word K a) e ∙ ap (carried K a) y ∙ ap (machine.loads a l rd address) h))
-      (subst (λ (z : Option Action). IfRetired (beat_of (answered c (finishes c z)))
-      (Takes K a (record { address = a.pc; word = w; clocks = 4; overwritten = overwritten_in_t3 c z }) (machine.loads a l rd address (Ok v)))) (sym y) (in_t3_load w v f e l rd rs1 imm))
-  entry_takes_back g c (branching w d r cmp rs1 rs2 imm e y) =
-      let c = within a w d r (compared cmp (x a rs1) (x a rs2)) T3 in
-      subst (λ (st : Step). IfRetired (beat_of (answered c (finishes c (action_of_word w)))) (Takes K a (entry_of K a.words c) st))
-      (sym (ap (carried_word K a) e ∙ ap (carried K a) y))
-      (subst (λ (z : Option Action). IfRetired (beat_of (answered c (finishes c z)))
-      (Takes K a (record { address = a.pc; word = w; clocks = 4; overwritten = overwritten_in_t3 c z }) (carried K a (Some (Br cmp rs1 rs2 imm))))) (sym y) (in_t3_branch w d r e cmp rs1 rs2 imm))
+  entry_takes_back g c (decoded w d r f e) = rw e (in_t2 w d r f e (action_of_word w))
+  entry_takes_back g c (loading w v f l rd rs1 imm e y h) = rw (e, y, h) (in_t3_load w v f e l rd rs1 imm)
+  entry_takes_back g c (branching w d r cmp rs1 rs2 imm e y) = rw (e, y) (in_t3_branch w d r e cmp rs1 rs2 imm)

@@ -78,7 +78,7 @@ impl<M: ReadMemory> Bench<M> {
         Ok(match at {
             Look::Register(n) if n > 31 => return Err(LookFault::NoRegister),
             Look::Register(n) => u64::from(core.registers.get(n)),
-            Look::Byte(address) => return self.byte(address),
+            Look::Byte(address) => self.byte(address)?,
             Look::Pc => u64::from(core.pc),
             Look::Tr => u64::from(core.tr),
             Look::Ir => u64::from(core.ir),

@@ -1,5 +1,5 @@
 -- One call more, and the law for every list of calls.
-use Rattle.std.proofs.Common.{◌≡◌, ℕ, zero, suc, ◌+◌, ◌<◌, List, [], ◌∷◌, ◌++◌, length, get_or, take, drop, set, sym, refl, ap, ◌∙◌, subst, arith}
+use Rattle.std.proofs.Common.{◌≡◌, ℕ, zero, suc, ◌+◌, ◌<◌, List, [], ◌∷◌, ◌++◌, length, get_or, take, drop, set, sym, refl, ap, ◌∙◌, arith}
 use Rattle.std.proofs.lemmas.List.{take_more, take_more_set, drop-set-lt, drop-drop}
 use Rattle.bench.proofs.Keeps.{reached_stands}
 use Rattle.bench.specs.Law.{Start, Stands, Reached, fresh, ticked, did_step, did_run, went_back}
@@ -18,20 +18,22 @@ answers_push : (t : State) (cs : List Call) (c : Call) → answers t (cs ++ (c �
 answers_push t [] c = refl
 answers_push t (x ∷ cs) c = ap (λ (r : List Answer). answered x t ∷ r) (answers_push (called x t) cs c)
 
--- call i, after those before it
-pub state_more : (t : State) (cs : List Call) (i : ℕ) (d : Call) → i < length cs → called (get_or cs i d) (played t (take i cs)) ≡ played t (take (i + 1) cs)
-state_more t cs i d h = sym (ap (played t) (take_more cs i d h) ∙ played_push t (take i cs) (get_or cs i d))
+-- the first i calls, from t, came to u: their answers are in the first places, and the later ones are as they were
+pub record Made (t : State) (cs : List Call) (was : List Answer) (i : ℕ) (u : State) (places : List Answer) : Type 0 where
+  pub gave : take i places ≡ answers t (take i cs)
+  pub later : drop i places ≡ drop i was
+  pub left : u ≡ played t (take i cs)
 
-pub answer_more : (t : State) (cs : List Call) (places : List Answer) (i : ℕ) (d : Call) → i < length cs → i < length places → take i places ≡ answers t (take i cs) →
-    take (i + 1) (set places i (answered (get_or cs i d) (played t (take i cs)))) ≡ answers t (take (i + 1) cs)
-answer_more t cs places i d h l e =
-    take_more_set places i _ l ∙ ap (λ (r : List Answer). r ++ (answered (get_or cs i d) (played t (take i cs)) ∷ [])) e
-    ∙ sym (ap (answers t) (take_more cs i d h) ∙ answers_push t (take i cs) (get_or cs i d))
-
--- the places after place i
-pub later_more : (places was : List Answer) (i : ℕ) (x : Answer) → drop i places ≡ drop i was → drop (i + 1) (set places i x) ≡ drop (i + 1) was
-later_more places was i x e =
-    drop-set-lt (i + 1) places i x (omega arith) ∙ sym (drop-drop 1 i places) ∙ ap (drop 1) e ∙ drop-drop 1 i was
+-- and one call more
+pub made_more : (t u v : State) (cs : List Call) (places was : List Answer) (i : ℕ) (d : Call) (x : Answer) → i < length cs → i < length places →
+    x ≡ answered (get_or cs i d) u → v ≡ called (get_or cs i d) u → Made t cs was i u places → Made t cs was (i + 1) v (set places i x)
+made_more t u v cs places was i d x h l told went made =
+    let more = take_more cs i d h in
+    record {
+      gave = take_more_set places i x l ∙ rw (more, answers_push t (take i cs) (get_or cs i d), made.gave, told, made.left) refl;
+      later = drop-set-lt (i + 1) places i x (omega arith) ∙ sym (drop-drop 1 i places) ∙ ap (drop 1) made.later ∙ drop-drop 1 i was;
+      left = rw (more, played_push t (take i cs) (get_or cs i d), went, made.left) refl;
+    }
 
 -- the law, call by call
 call_reached : (s : Start) (n : ℕ) (t : State) (c : Call) → Reached s n t → Reached s (counted n (answered c t)) (called c t)
@@ -56,11 +58,11 @@ answers_take (suc k) t (c ∷ cs) = ap (λ (r : List Answer). answered c t ∷ r
 
 pub lawful : (s : Start) (cs : List Call) (given : List Answer) (t u : State) → u ≡ fresh_of s → given ≡ answers u cs → t ≡ played u cs → Lawful s cs given t
 lawful s cs given t u new g l =
-    let gave : given ≡ answers (fresh_of s) cs = g ∙ ap (λ (v : State). answers v cs) new in
-    let left : t ≡ played (fresh_of s) cs = l ∙ ap (λ (v : State). played v cs) new in
+    let gave : given ≡ answers (fresh_of s) cs = rw new at g in
+    let left : t ≡ played (fresh_of s) cs = rw new at l in
     record {
       gave = gave;
       left = left;
-      each = λ k. subst (λ (given' : List Answer). Stands s (standing 0 given') (played (fresh_of s) (take k cs))) (answers_take k (fresh_of s) cs ∙ ap (take k) (sym gave)) (all_stand s (take k cs));
-      last = subst (λ (given' : List Answer). Stands s (standing 0 given') t) (sym gave) (subst (Stands s (standing 0 (answers (fresh_of s) cs))) (sym left) (all_stand s cs));
+      each = λ k. rw (gave, ← answers_take k (fresh_of s) cs) (all_stand s (take k cs));
+      last = rw (gave, left) (all_stand s cs);
     }

@@ -1,13 +1,12 @@
-use Rattle.std.proofs.Common.{◌≡◌, take, drop}
+use Rattle.std.proofs.Common.{◌≡◌}
 use Rattle.bench.specs.State.{state_of}
-use Rattle.session.specs.Lists.{answers, played}
+use Rattle.session.proofs.Prefixes.{Made}
 use Rattle.session.proofs.playing.make_all.Given as goal
 
 abbrev pub invariant-loop-k : goal.invariant-loop-k
 invariant-loop-k g l =
     let m = g.M.ReadMemory in
-    let t = state_of m l.initial.bench in
-    (take l.k l.places ≡ answers t (take l.k l.calls))
-    × (drop l.k l.places ≡ drop l.k l.initial.places)
-    × (state_of m l.bench ≡ played t (take l.k l.calls))
-    × (g.M.WriteMemory.rest l.bench.memory ≡ g.M.WriteMemory.rest l.initial.bench.memory)
+    record {
+      made : Made (state_of m l.initial.bench) l.calls l.initial.places l.k (state_of m l.bench) l.places;
+      rest : g.M.WriteMemory.rest l.bench.memory ≡ g.M.WriteMemory.rest l.initial.bench.memory;
+    }

@@ -16,7 +16,7 @@ returns-in_err-map_err g c =
     let y = err_from_is_err_and c.from_residual.result c.from_residual.ensures.1 in
     let was = refusal_of c.step.result c.map_err.result _ c.in_err-map_err.field-0.0 c.in_err-map_err.was c.map_err.ensures.cases in
     let gave : c.in_err-map_err.field-0.0 ≡ record { done = c.loop-done.done-counter; stop = stop.Core was.0 } = search (rules, was.2) in
-    let all = refused_step (state_of m c.loop-done.self) (state_of m c.step.new.self) c.loop-done.done-counter n (omega arith) e.state was.0 (sym e.answer ∙ was.1) in
+    let all = refused_step _ _ c.loop-done.done-counter n (omega arith) e.state was.0 (sym e.answer ∙ was.1) in
     let few = few_steps n (state_of m c.args.self.now) (omega arith) in
     let told = y.1 ∙ ap (λ (f : RunFault). Err f) (y.2 ∙ gave) ∙ all.0 ∙ inv.answer ∙ few.0 in
     let came = all.1 ∙ inv.state ∙ few.1 in
@@ -29,7 +29,7 @@ loop-done-preserved g c =
     let e = c.step.ensures in
     let x = c.in_ok-map_err.field-0 in
     let was : c.step.result ≡ Ok x = grind arith in
-    let all = next_step (state_of m c.loop-done.self) (state_of m c.step.new.self) c.loop-done.done-counter c.args.n (omega arith) e.state x (sym e.answer ∙ was) in
+    let all = next_step _ _ c.loop-done.done-counter c.args.n (omega arith) e.state x (sym e.answer ∙ was) in
     record { answer = all.0 ∙ inv.answer; state = all.1 ∙ inv.state; rest = e.rest ∙ inv.rest }
 
 pub returns : goal.returns

@@ -3,8 +3,8 @@
 use Rattle.std.proofs.Common.{◌≡◌, ℕ, zero, suc, ◌+◌, ◌-◌, ◌%◌, ◌<◌, ◌≤◌, ltb, ◌≢◌, List, ◌∷◌, length, get_or, take, set, Some, refl, ap, ap₂, inl, inr, le_of_suc-le-suc, add-one, arith, take_all, get_or-set_other, get_or-set_same, ltb-false, ltb-true}
 use Rattle.std.proofs.lemmas.Bool.{cases_Bool}
 use Rattle.journal.specs.declared.entry.Entry.{Entry}
-use Rattle.journal.specs.Entries.{empty}
-use Rattle.journal.specs.Ring.{place_after, place_before, grown, behind, popped, remaining}
+use Rattle.journal.specs.Entries.{empty, popped, remaining}
+use Rattle.journal.specs.Ring.{place_after, place_before, grown, behind}
 
 pub behind_length : (es : List Entry) (p n : ℕ) → length (behind es p n) ≡ n
 behind_length es p zero = refl

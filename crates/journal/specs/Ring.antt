@@ -1,7 +1,7 @@
 -- A journal as the list of its entries, newest first.
-use Rattle.std.specs.Prelude.{ℕ, zero, suc, ◌+◌, ◌%◌, cond, List, [], ◌∷◌, Some, None, Option, nat_lt, slice_index_or}
+use Rattle.std.specs.Prelude.{ℕ, zero, suc, ◌+◌, ◌%◌, cond, List, [], ◌∷◌, nat_lt, slice_index_or}
 use Rattle.journal.specs.declared.entry.Entry.{Entry}
-use Rattle.journal.specs.declared.ring.Journal.{Journal}
+use Rattle.journal.specs.declared.ring.Journal.TheInside.{Inside}
 use Rattle.journal.specs.Entries.{empty}
 
 -- the places 0 to 255 go round
@@ -21,14 +21,5 @@ behind es p zero = []
 behind es p (suc n) = slice_index_or es (place_before p) empty ∷ behind es (place_before p) n
 
 -- the entries of a journal, newest first
-abbrev pub listed : Journal → List Entry
+abbrev pub listed : Inside → List Entry
 listed j = behind j.entries j.next j.held
-
--- what a pop gives of this list, and what it leaves
-abbrev pub popped : List Entry → Option Entry
-popped [] = None
-popped (e ∷ es) = Some e
-
-abbrev pub remaining : List Entry → List Entry
-remaining [] = []
-remaining (e ∷ es) = es

@@ -1,23 +1,21 @@
 //! What a journal keeps of an instruction that retired.
 
 /// What an instruction wrote over, as it was before.
-#[derive(Clone, Copy)]
+#[derive(Clone, Copy, PartialEq, Eq, Debug)]
 pub enum Overwritten {
-    /// It wrote nothing.
-    Nothing,
     /// The register of this number had this value.
     Register { number: u8, value: u32 },
     /// The word of this number had this value, all four bytes of it. Bit i of the mask says whether lane i was written.
     Bytes { word: u32, value: u32, mask: u8 },
 }
 
-/// One instruction that retired: its address, its word, the clocks that it took, and what it wrote over.
-#[derive(Clone, Copy)]
+/// One instruction that retired: its address, its word, the clocks that it took, and what it wrote over, if it wrote.
+#[derive(Clone, Copy, PartialEq, Eq, Debug)]
 pub struct Entry {
     pub address: u32,
     pub word: u32,
     pub clocks: u64,
-    pub overwritten: Overwritten,
+    pub overwritten: Option<Overwritten>,
 }
 
 impl Entry {
@@ -26,6 +24,6 @@ impl Entry {
         address: 0,
         word: 0,
         clocks: 0,
-        overwritten: Overwritten::Nothing,
+        overwritten: None,
     };
 }

@@ -1,7 +1,8 @@
 -- What a write at the next place, and a step back, are on the list of the entries.
 -- Assumes nothing.
-use Rattle.std.proofs.Common.{◌≡◌, ℕ, zero, suc, ◌+◌, ◌-◌, ◌%◌, ◌<◌, ◌≤◌, ltb, ◌≢◌, List, ◌∷◌, length, get_or, take, set, Some, refl, ap, ap₂, inl, inr, le_of_suc-le-suc, add-one, arith, take_all, get_or-set_other, get_or-set_same, ltb-false, ltb-true}
+use Rattle.std.proofs.Common.{◌≡◌, ℕ, zero, suc, ◌+◌, ◌-◌, ◌%◌, ◌<◌, ◌≤◌, ltb, ◌≢◌, List, ◌∷◌, length, get_or, take, set, min, Some, refl, ap, ap₂, inl, inr, le_of_suc-le-suc, add-one, arith, take_all, get_or-set_other, get_or-set_same, ltb-false, ltb-true}
 use Rattle.std.proofs.lemmas.Bool.{cases_Bool}
+use Rattle.std.proofs.lemmas.Bool.Decides.{nat_tests}
 use Rattle.journal.specs.declared.entry.Entry.{Entry}
 use Rattle.journal.specs.Entries.{empty, popped, remaining}
 use Rattle.journal.specs.Ring.{place_after, place_before, grown, behind}
@@ -51,3 +52,10 @@ back_value es p (suc n) h = refl
 pub back_listed : (es : List Entry) (p n : ℕ) → 0 < n → behind es (place_before p) (n - 1) ≡ remaining (behind es p n)
 back_listed es p zero h = absurd (omega arith)
 back_listed es p (suc n) h = ap (behind es (place_before p)) (omega arith)
+
+-- the same, as the code counts
+pub push_listed : (es : List Entry) (p n : ℕ) (e : Entry) → length es ≡ 256 → p < 256 → n ≤ 256 →
+    behind (set es p e) ((p + 1) % 256) (min (n + 1) 256) ≡ take 256 (e ∷ behind es p n)
+push_listed es p n e whole low most =
+    let more : min (n + 1) 256 ≡ grown n = grind (arith, nat_tests) in
+    rw more (put_listed es p n e whole low most)

@@ -9,6 +9,7 @@ use crate::entry::Entry;
 impl Journal {
     /// Keeps one more entry, as the newest. If there are 256 already, the oldest is dropped.
     /// A `pop` would give this entry back, and leave the newest 255 of those before it.
+    #[tactic(auto, using(crate::proofs::Rings::push_listed))]
     pub fn push(&mut self, entry: Entry)
         ensures exact { self.new ≡ take 256 (entry ∷ self.old) }
         ensures newest { popped self.new ≡ Some entry }

@@ -5,7 +5,7 @@ ghost use Rattle.machine.specs.declared.cause.Cause.TheVariants.{Memory};
 use memory::MemoryFault;
 
 /// Why an instruction cannot be carried out.
-#[derive(Clone, Copy)]
+#[derive(Clone, Copy, PartialEq, Eq, Debug)]
 pub enum Cause {
     /// Four does not divide PC.
     UnalignedPc,

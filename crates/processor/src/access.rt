@@ -4,7 +4,7 @@ ghost use Rattle.processor.specs.Accesses.{suits, word_in, written_in};
 use memory::MemoryFault;
 
 /// What a core asks of the memory in one clock: nothing, one read or one write.
-#[derive(Clone, Copy)]
+#[derive(Clone, Copy, PartialEq, Eq, Debug)]
 pub enum Access {
     Nothing,
     /// The word of this number.
@@ -14,7 +14,7 @@ pub enum Access {
 }
 
 /// What the memory answers.
-#[derive(Clone, Copy)]
+#[derive(Clone, Copy, PartialEq, Eq, Debug)]
 pub enum Reply {
     Nothing,
     Read(Result<u32, MemoryFault>),
@@ -26,12 +26,12 @@ impl Reply {
     pub fn suits(self, access: Access) -> bool
         ensures { result ≡ suits access self }
     {
-        match (access, self) {
-            (Access::Nothing, Reply::Nothing) => true,
-            (Access::Read(_), Reply::Read(_)) => true,
-            (Access::Write { .. }, Reply::Written(_)) => true,
-            _ => false,
-        }
+        matches!(
+            (access, self),
+            (Access::Nothing, Reply::Nothing)
+                | (Access::Read(_), Reply::Read(_))
+                | (Access::Write { .. }, Reply::Written(_))
+        )
     }
 
     /// The answer to a read. A reply to anything else gives 0.

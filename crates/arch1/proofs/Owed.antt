@@ -6,7 +6,7 @@ use Rattle.arch1.specs.Datapath.{Datapath}
 use Rattle.arch1.specs.Owes.{Owes, idle, fetched, decoded, loading, branching}
 use Rattle.arch1.specs.declared.phase.Phase.TheVariants.{T0}
 
-pub owes_registers : (K : ℕ → Kind) (a : Arch) (g : ℕ) (c : Datapath) → Owes K a g c → c.registers.numbers ≡ a.registers
+pub owes_registers : (K : ℕ → Kind) (a : Arch) (g : ℕ) (c : Datapath) → Owes K a g c → c.registers ≡ a.registers
 owes_registers K a g c (idle t i d r f) = refl
 owes_registers K a g c (fetched i w r f e) = refl
 owes_registers K a g c (decoded w d r f e) = refl

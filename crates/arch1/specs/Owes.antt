@@ -27,11 +27,11 @@ clocks_of_class class.Br = 4
 
 -- the core between instructions, at a, whatever lies in TR, IR, DR, AR and FLG
 abbrev pub between : Arch → ℕ → ℕ → ℕ → ℕ → Bool → Datapath
-between a t i d r f = record { registers = record { numbers = a.registers }; pc = a.pc; tr = t; ir = i; dr = d; ar = r; flg = f; phase = T0 }
+between a t i d r f = record { registers = a.registers; pc = a.pc; tr = t; ir = i; dr = d; ar = r; flg = f; phase = T0 }
 
 -- the core within the instruction at a: its address lies in TR, and PC is the address that follows
 abbrev pub within : Arch → ℕ → ℕ → ℕ → Bool → Phase → Datapath
-within a i d r f next = record { registers = record { numbers = a.registers }; pc = following a; tr = a.pc; ir = i; dr = d; ar = r; flg = f; phase = next }
+within a i d r f next = record { registers = a.registers; pc = following a; tr = a.pc; ir = i; dr = d; ar = r; flg = f; phase = next }
 
 -- after so many clocks
 pub data Owes (K : ℕ → Kind) (a : Arch) : ℕ → Datapath → Type 0 where

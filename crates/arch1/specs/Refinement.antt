@@ -25,7 +25,7 @@ rig c W = record { core = c; words = W }
 
 -- the machine where a core that is between instructions is
 abbrev pub start_of : Datapath → (ℕ → ℕ) → Arch
-start_of c W = record { pc = c.pc; registers = c.registers.numbers; words = W }
+start_of c W = record { pc = c.pc; registers = c.registers; words = W }
 
 abbrev pub ticked : (ℕ → Kind) → Rig → Rig
 ticked K s = record { core = ticked_core K s.words s.core; words = ticked_words K s.words s.core }
@@ -65,7 +65,7 @@ pub record Stands (K : ℕ → Kind) (a : Arch) (s : Rig) : Type 0 where
   pub owes : Owes K a 0 s.core
   pub phase : s.core.phase ≡ T0
   pub pc : s.core.pc ≡ a.pc
-  pub registers : s.core.registers.numbers ≡ a.registers
+  pub registers : s.core.registers ≡ a.registers
   pub words : s.words ≡ a.words
 
 -- the clocks of one instruction against one step of the machine: as many as its class takes, and the machine's state after it;
@@ -81,4 +81,4 @@ pub record Refines (K : ℕ → Kind) (a : Arch) (s : Rig) (r : Result ℕ CoreF
   pub carries : Carries K a (stepped K a) r t
   -- while the instruction is open, nothing of a has changed
   pub before : (k : ℕ) → StillOpen K k s →
-      Owes K a k (ticks K k s).core × ((ticks K k s).core.registers.numbers ≡ a.registers) × ((ticks K k s).words ≡ a.words)
+      Owes K a k (ticks K k s).core × ((ticks K k s).core.registers ≡ a.registers) × ((ticks K k s).words ≡ a.words)

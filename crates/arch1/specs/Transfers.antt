@@ -28,12 +28,12 @@ pub data Outcome : Type 0 where
 
 -- the number in register n
 abbrev pub x : Datapath → ℕ → ℕ
-x c n = value_of c.registers.numbers n
+x c n = value_of c.registers n
 
 -- rd ← v
 abbrev pub put : Datapath → ℕ → ℕ → Datapath
 put c rd v = record {
-  registers = record { numbers = put_into c.registers.numbers rd v };
+  registers = put_into c.registers rd v;
   pc = c.pc;
   tr = c.tr;
   ir = c.ir;

@@ -1,6 +1,5 @@
 ghost use Rattle.std.specs.Prelude.{◌≡◌};
 ghost use Rattle.arch1.specs.Clock.{idle, address_of, dropped, answered, settled, clock_answer, clocked_core, tick_answer, ticked_core, ticked_words};
-ghost use Rattle.arch1.specs.Datapath.{datapath_of};
 ghost use Rattle.arch1.specs.Refinement.{Keeps};
 ghost use Rattle.arch1.specs.Transfers.{transfer};
 
@@ -14,7 +13,7 @@ use registers::RegisterFile;
 impl Core {
     /// A core with these registers and this PC, no instruction open.
     pub fn new(registers: RegisterFile, pc: u32) -> Core
-        ensures { datapath_of result ≡ idle registers pc }
+        ensures { result ≡ idle registers pc }
     {
         Core {
             registers,
@@ -31,14 +30,14 @@ impl Core {
 
     /// Sets the registers and PC, drops an open instruction and clears TR, IR, DR, AR and FLG.
     pub fn set(&mut self, registers: RegisterFile, pc: u32)
-        ensures { datapath_of self.new ≡ idle registers pc }
+        ensures { self.new ≡ idle registers pc }
     {
         *self = Core::new(registers, pc);
     }
 
     // The address of the open instruction, or of the next one.
     fn address(&self) -> u32
-        ensures { result ≡ address_of (datapath_of self.now) }
+        ensures { result ≡ address_of self.now }
     {
         match self.phase {
             Phase::T0 => self.pc,
@@ -48,38 +47,37 @@ impl Core {
 
     /// Drops an open instruction: PC is at its address, the phase is T0, and TR, IR, DR, AR and FLG are cleared.
     pub fn drop_open(&mut self)
-        ensures { datapath_of self.new ≡ dropped (datapath_of self.old) }
+        ensures { self.new ≡ dropped self.old }
     {
         self.set(self.registers, self.address());
     }
 
     // One clock, with a reply to its access.
     fn settle(&mut self, reply: Reply) -> Result<Ticked, CoreFault>
-        ensures answer { result ≡ answered (datapath_of self.old) (transfer (datapath_of self.old) reply) }
-        ensures core { datapath_of self.new ≡ settled (datapath_of self.old) (transfer (datapath_of self.old) reply) }
+        ensures answer { result ≡ answered self.old (transfer self.old reply) }
+        ensures core { self.new ≡ settled self.old (transfer self.old reply) }
     {
         let phase = self.phase;
         let address = self.address();
-        match self.transfer(reply) {
-            Ok(ticked) => Ok(ticked),
-            Err(cause) => {
-                self.drop_open();
-                Err(CoreFault {
-                    phase,
-                    address,
-                    cause,
-                })
-            }
+        let answer = self.transfer(reply).map_err(|cause| CoreFault {
+            phase,
+            address,
+            cause,
+        });
+        if answer.is_err() {
+            self.drop_open();
         }
+        answer
     }
 
     /// One clock, with the memory's reply to `access()`: the next phase, and whether an instruction retired.
     /// A refused clock keeps the registers, puts PC at the instruction's address and the phase at T0, and clears TR, IR, DR, AR and FLG.
     /// A reply that is none to the access changes nothing, and gives nothing.
     pub fn clock(&mut self, reply: Reply) -> Option<Result<Ticked, CoreFault>>
-        ensures answer { result ≡ clock_answer (datapath_of self.old) reply }
-        ensures core { datapath_of self.new ≡ clocked_core (datapath_of self.old) reply }
+        ensures answer { result ≡ clock_answer self.old reply }
+        ensures core { self.new ≡ clocked_core self.old reply }
     {
+        // No `then`: of a closure that changes the core, a proof does not learn what it leaves.
         if reply.suits(self.access()) {
             Some(self.settle(reply))
         } else {
@@ -87,28 +85,17 @@ impl Core {
         }
     }
 
-    // One clock over a memory, exactly.
-    fn advance<M: WriteMemory>(&mut self, memory: &mut M) -> Result<Ticked, CoreFault>
-        ensures answer { result ≡ tick_answer (M.ReadMemory.kinds memory.old) (M.ReadMemory.words memory.old) (datapath_of self.old) }
-        ensures core { datapath_of self.new ≡ ticked_core (M.ReadMemory.kinds memory.old) (M.ReadMemory.words memory.old) (datapath_of self.old) }
-        ensures words { M.ReadMemory.words memory.new ≡ ticked_words (M.ReadMemory.kinds memory.old) (M.ReadMemory.words memory.old) (datapath_of self.old) }
-        ensures kinds { M.ReadMemory.kinds memory.new ≡ M.ReadMemory.kinds memory.old }
-        ensures rest { M.WriteMemory.rest memory.new ≡ M.WriteMemory.rest memory.old }
-    {
-        let reply = perform(memory, self.access());
-        self.settle(reply)
-    }
-
     /// One clock over a memory: the next phase, and whether an instruction retired. It is refused as `clock` says, and the memory then stays as it is.
     /// Whatever instruction the core is in, the clock keeps it with RV32I by whole instructions.
     pub fn tick<M: WriteMemory>(&mut self, memory: &mut M) -> Result<Ticked, CoreFault>
-        ensures answer { result ≡ tick_answer (M.ReadMemory.kinds memory.old) (M.ReadMemory.words memory.old) (datapath_of self.old) }
-        ensures core { datapath_of self.new ≡ ticked_core (M.ReadMemory.kinds memory.old) (M.ReadMemory.words memory.old) (datapath_of self.old) }
-        ensures words { M.ReadMemory.words memory.new ≡ ticked_words (M.ReadMemory.kinds memory.old) (M.ReadMemory.words memory.old) (datapath_of self.old) }
+        ensures answer { result ≡ tick_answer (M.ReadMemory.kinds memory.old) (M.ReadMemory.words memory.old) self.old }
+        ensures core { self.new ≡ ticked_core (M.ReadMemory.kinds memory.old) (M.ReadMemory.words memory.old) self.old }
+        ensures words { M.ReadMemory.words memory.new ≡ ticked_words (M.ReadMemory.kinds memory.old) (M.ReadMemory.words memory.old) self.old }
         ensures kinds { M.ReadMemory.kinds memory.new ≡ M.ReadMemory.kinds memory.old }
         ensures rest { M.WriteMemory.rest memory.new ≡ M.WriteMemory.rest memory.old }
-        ensures law { Keeps (M.ReadMemory.kinds memory.old) (M.ReadMemory.words memory.old) (datapath_of self.old) result (datapath_of self.new) (M.ReadMemory.words memory.new) }
+        ensures law { Keeps (M.ReadMemory.kinds memory.old) (M.ReadMemory.words memory.old) self.old result self.new (M.ReadMemory.words memory.new) }
     {
-        self.advance(memory)
+        let reply = perform(memory, self.access());
+        self.settle(reply)
     }
 }

@@ -4,6 +4,7 @@ ghost use Rattle.actions.specs.Actions.{action_of_word};
 use super::phase::Phase;
 use actions::Action;
 use registers::RegisterFile;
+use std::marker::Model;
 
 /// The core: the registers of the datapath.
 #[derive(Clone, Copy)]
@@ -25,7 +26,24 @@ pub struct Core {
     pub flg: bool,
     /// The phase of the next clock.
     pub phase: Phase,
-    ghost known: { action ≡ action_of_word ir },
+}
+
+// Clauses see the registers of the datapath; what the word in IR does follows from them.
+impl Model for Core {
+    ghost use Rattle.std.proofs.Common.{◌≡◌, Option, ap, sym};
+    ghost use Rattle.actions.specs.Actions.{action_of_word};
+    ghost use Rattle.actions.specs.declared.action.Action.{Action};
+    ghost use Rattle.arch1.specs.Datapath.{Datapath};
+
+    ghost Value = { Datapath };
+
+    ghost view = { λ c. record { registers = c.registers; pc = c.pc; tr = c.tr; ir = c.ir; dr = c.dr; ar = c.ar; flg = c.flg; phase = c.phase } };
+
+    ghost invariant = { λ c. c.action ≡ action_of_word c.ir };
+
+    ghost inverse = { λ d. record { registers = d.registers; pc = d.pc; tr = d.tr; ir = d.ir; action = action_of_word d.ir; dr = d.dr; ar = d.ar; flg = d.flg; phase = d.phase } };
+
+    ghost inverse_ok = { λ a h. ap (λ (x : Option Action). record { registers = a.registers; pc = a.pc; tr = a.tr; ir = a.ir; action = x; dr = a.dr; ar = a.ar; flg = a.flg; phase = a.phase }) (sym h) };
 }
 
 impl Core {

@@ -4,7 +4,7 @@ ghost use Rattle.arch1.specs.Phases.{phase_number};
 use machine::Cause;
 
 /// The four clocks of an instruction; most take only the first three.
-#[derive(Clone, Copy)]
+#[derive(Clone, Copy, PartialEq, Eq, Debug)]
 pub enum Phase {
     T0,
     T1,
@@ -27,14 +27,14 @@ impl Phase {
 }
 
 /// What a clock answers: the next phase, and whether an instruction retired.
-#[derive(Clone, Copy)]
+#[derive(Clone, Copy, PartialEq, Eq, Debug)]
 pub struct Ticked {
     pub next: Phase,
     pub retired: bool,
 }
 
 /// Why a clock was refused: its phase, the address of the instruction, and the cause.
-#[derive(Clone, Copy)]
+#[derive(Clone, Copy, PartialEq, Eq, Debug)]
 pub struct CoreFault {
     pub phase: Phase,
     pub address: u32,

@@ -1,17 +1,16 @@
 use Rattle.std.proofs.Common.{◌≡◌, ℕ, ◌-◌, Err, sym, ap, ◌∙◌, arith}
 use Rattle.std.proofs.lemmas.Result.{err_from_is_err_and}
 use Rattle.arch1.proofs.Instructions.{by_contract, next_clock, last_clock, refused_clock, no_clock, instruction_refines}
-use Rattle.arch1.specs.Datapath.{datapath_of}
 use Rattle.arch1.specs.Refinement.{rig, answer_for, rig_for}
 use Rattle.arch1.specs.declared.phase.CoreFault.{CoreFault}
-use Rattle.arch1.proofs.datapath.Core.clocks.Goals as goal
+use Rattle.arch1.proofs.datapath.Core.instruction.Goals as goal
 
 pub returns-in_err-tick : goal.returns-in_err-tick
 returns-in_err-tick g c =
     let m = g.M.ReadMemory in
     let K = m.kinds c.args.memory.now in
-    let s = rig (datapath_of c.loop-done.self) (m.words c.loop-done.memory) in
-    let t = rig (datapath_of c.tick.new.self) (m.words c.tick.new.memory) in
+    let s = rig c.loop-done.self (m.words c.loop-done.memory) in
+    let t = rig c.tick.new.self (m.words c.tick.new.memory) in
     let inv = c.loop-done.invariant in
     let e = c.tick.ensures in
     let one = by_contract K (m.kinds c.loop-done.memory) inv.2 s t c.tick.result e.answer e.core e.words in
@@ -25,8 +24,8 @@ pub returns-then-branch : goal.returns-then-branch
 returns-then-branch g c =
     let m = g.M.ReadMemory in
     let K = m.kinds c.args.memory.now in
-    let s = rig (datapath_of c.loop-done.self) (m.words c.loop-done.memory) in
-    let t = rig (datapath_of c.tick.new.self) (m.words c.tick.new.memory) in
+    let s = rig c.loop-done.self (m.words c.loop-done.memory) in
+    let t = rig c.tick.new.self (m.words c.tick.new.memory) in
     let inv = c.loop-done.invariant in
     let e = c.tick.ensures in
     let one = by_contract K (m.kinds c.loop-done.memory) inv.2 s t c.tick.result e.answer e.core e.words in
@@ -39,8 +38,8 @@ pub loop-done-preserved : goal.loop-done-preserved
 loop-done-preserved g c =
     let m = g.M.ReadMemory in
     let K = m.kinds c.args.memory.now in
-    let s = rig (datapath_of c.loop-done.self) (m.words c.loop-done.memory) in
-    let t = rig (datapath_of c.tick.new.self) (m.words c.tick.new.memory) in
+    let s = rig c.loop-done.self (m.words c.loop-done.memory) in
+    let t = rig c.tick.new.self (m.words c.tick.new.memory) in
     let inv = c.loop-done.invariant in
     let e = c.tick.ensures in
     let one = by_contract K (m.kinds c.loop-done.memory) inv.2 s t c.tick.result e.answer e.core e.words in
@@ -51,7 +50,7 @@ pub returns : goal.returns
 returns g c =
     let m = g.M.ReadMemory in
     let K = m.kinds c.args.memory.now in
-    let s = rig (datapath_of c.loop-done.self) (m.words c.loop-done.memory) in
+    let s = rig c.loop-done.self (m.words c.loop-done.memory) in
     let inv = c.loop-done.invariant in
     let none = no_clock K s in
     let all : c.loop-done.done ≡ 4 = omega arith in

@@ -1,8 +1,9 @@
-use super::checks::check_eq;
-use super::seen::{core_at, state, told};
+use super::seen::{cleared, core_at, on, refused, retired, state};
+use anyhow::{Result, ensure};
+use arch1::Phase;
 use layers::Shield;
-use memory::WriteMemory;
-use std::test::Fail;
+use machine::Cause;
+use memory::{MemoryFault, WriteMemory};
 use stores::{ReadOnlyImage, WordBank};
 
 /// beq x0, x0, 4: taken, to the next word. It sets FLG.
@@ -11,38 +12,56 @@ const BRANCH: u32 = 0x0000_0263;
 /// lw x3, 0(x0): it puts the first word into DR and x3, and it sets AR.
 const LOAD: u32 = 0x0000_2183;
 
-/// A memory with the branch, the load, and at 8 something that is refused after `open` of its clocks with this number and phase.
+/// The memory has no word of this number.
+fn absent(word: u32) -> Cause {
+    Cause::Memory(MemoryFault {
+        cause: memory::Cause::NoWord,
+        word,
+    })
+}
+
+/// The word of this number is fixed.
+fn fixed(word: u32) -> Cause {
+    Cause::Memory(MemoryFault {
+        cause: memory::Cause::FixedWord,
+        word,
+    })
+}
+
+/// A memory with the branch, the load, and at 8 something that is refused after `open` of its clocks with this cause and phase.
 /// The refusal keeps the registers and clears the rest. It comes again from there, and not where the core is set to 0.
 fn refused_at_8<M: WriteMemory>(
     memory: &mut M,
     open: u8,
-    number: u8,
-    phase: u8,
-) -> Result<(), Fail> {
+    cause: Cause,
+    phase: Phase,
+) -> Result<()> {
     let mut core = core_at(0, 0);
     for _ in 0..8 {
-        check_eq(core.tick(memory).is_ok(), true)?;
+        ensure!(core.tick(memory).is_ok());
     }
-    check_eq(state(&core), [8, 4, LOAD, BRANCH, 0, 1, 0])?;
+    ensure!(state(&core) == ([8, 4, LOAD, BRANCH, 0], true, Phase::T0));
     for _ in 0..2 {
         for _ in 0..open {
-            check_eq(core.tick(memory).is_ok(), true)?;
+            ensure!(core.tick(memory).is_ok());
         }
-        check_eq(told(core.tick(memory)), (number, phase, 8))?;
-        check_eq(state(&core), [8, 0, 0, 0, 0, 0, 0])?;
-        check_eq(core.registers.get(3), BRANCH)?;
+        ensure!(core.tick(memory) == refused(cause, phase, 8));
+        ensure!(state(&core) == cleared(8));
+        ensure!(core.registers.get(3) == BRANCH);
     }
     let registers = core.registers;
     core.set(registers, 0);
-    check_eq(told(core.tick(memory)), (0, 1, 0))?;
-    check_eq(state(&core), [4, 0, 0, BRANCH, 0, 0, 1])
+    ensure!(core.tick(memory) == on(Phase::T1));
+    ensure!(state(&core) == ([4, 0, 0, BRANCH, 0], false, Phase::T1));
+    Ok(())
 }
 
-/// The same with a word at 8 that is refused in T2 with this number. No word changes.
-fn refused_word(word: u32, number: u8) -> Result<(), Fail> {
+/// The same with a word at 8 that is refused in T2 for this cause. No word changes.
+fn refused_word(word: u32, cause: Cause) -> Result<()> {
     let mut words = [BRANCH, LOAD, word];
-    refused_at_8(&mut WordBank::new(&mut words), 2, number, 2)?;
-    check_eq(words, [BRANCH, LOAD, word])
+    refused_at_8(&mut WordBank::new(&mut words), 2, cause, Phase::T2)?;
+    ensure!(words == [BRANCH, LOAD, word]);
+    Ok(())
 }
 
 #[test]
@@ -51,12 +70,16 @@ fn unaligned_pc(rt: HostRuntime) {
     let mut memory = WordBank::new(&mut words);
     for pc in 1..4u32 {
         let mut core = core_at(pc, 0);
-        assert_eq!(rt; told(core.tick(&mut memory)), (1, 0, pc));
-        assert_eq!(rt; told(core.tick(&mut memory)), (1, 0, pc));
-        assert_eq!(rt; state(&core), [pc, 0, 0, 0, 0, 0, 0]);
+        for _ in 0..2 {
+            assert_eq!(rt;
+                core.tick(&mut memory),
+                refused(Cause::UnalignedPc, Phase::T0, pc)
+            );
+        }
+        assert_eq!(rt; state(&core), cleared(pc));
         let registers = core.registers;
         core.set(registers, 0);
-        assert_eq!(rt; told(core.tick(&mut memory)), (0, 1, 0));
+        assert_eq!(rt; core.tick(&mut memory), on(Phase::T1));
     }
 }
 
@@ -66,56 +89,75 @@ fn jump_to_an_unaligned_pc(rt: HostRuntime) {
     let mut words = [0x0031_00e7];
     let mut memory = WordBank::new(&mut words);
     let mut core = core_at(0, 0x100);
-    assert_eq!(rt; told(core.tick(&mut memory)), (0, 1, 0));
-    assert_eq!(rt; told(core.tick(&mut memory)), (0, 2, 0));
-    assert_eq!(rt; told(core.tick(&mut memory)), (0, 0, 1));
+    assert_eq!(rt; core.tick(&mut memory), on(Phase::T1));
+    assert_eq!(rt; core.tick(&mut memory), on(Phase::T2));
+    assert_eq!(rt; core.tick(&mut memory), retired());
     assert_eq!(rt; core.pc, 0x102);
     assert_eq!(rt; core.registers.get(1), 4);
-    assert_eq!(rt; told(core.tick(&mut memory)), (1, 0, 0x102));
-    assert_eq!(rt; state(&core), [0x102, 0, 0, 0, 0, 0, 0]);
-    assert_eq!(rt; told(core.tick(&mut memory)), (1, 0, 0x102));
+    assert_eq!(rt;
+        core.tick(&mut memory),
+        refused(Cause::UnalignedPc, Phase::T0, 0x102)
+    );
+    assert_eq!(rt; state(&core), cleared(0x102));
+    assert_eq!(rt;
+        core.tick(&mut memory),
+        refused(Cause::UnalignedPc, Phase::T0, 0x102)
+    );
 }
 
 #[test]
-fn absent_instruction() -> Result<(), Fail> {
+fn absent_instruction() -> Result<()> {
     let mut words = [BRANCH, LOAD];
-    refused_at_8(&mut WordBank::new(&mut words), 0, 2, 0)
+    refused_at_8(&mut WordBank::new(&mut words), 0, absent(2), Phase::T0)
 }
 
 #[test]
-fn no_instruction() -> Result<(), Fail> {
-    refused_word(0, 3)?;
-    refused_word(0xffff_ffff, 3)
+fn no_instruction() -> Result<()> {
+    refused_word(0, Cause::NoInstruction)?;
+    refused_word(0xffff_ffff, Cause::NoInstruction)
 }
 
 /// lw x4, 2(x0), lh x4, 1(x0), lhu x4, 3(x0), sh x4, 1(x0) and sw x4, 2(x0).
 #[test]
-fn unaligned_address() -> Result<(), Fail> {
-    refused_word(0x0020_2203, 4)?;
-    refused_word(0x0010_1203, 4)?;
-    refused_word(0x0030_5203, 4)?;
-    refused_word(0x0040_10a3, 4)?;
-    refused_word(0x0040_2123, 4)
+fn unaligned_address() -> Result<()> {
+    refused_word(0x0020_2203, Cause::UnalignedAddress)?;
+    refused_word(0x0010_1203, Cause::UnalignedAddress)?;
+    refused_word(0x0030_5203, Cause::UnalignedAddress)?;
+    refused_word(0x0040_10a3, Cause::UnalignedAddress)?;
+    refused_word(0x0040_2123, Cause::UnalignedAddress)
 }
 
 /// lw x4, 64(x0) and sw x4, 64(x0).
 #[test]
-fn absent_word() -> Result<(), Fail> {
-    refused_word(0x0400_2203, 2)?;
-    refused_word(0x0440_2023, 2)
+fn absent_word() -> Result<()> {
+    refused_word(0x0400_2203, absent(16))?;
+    refused_word(0x0440_2023, absent(16))
 }
 
 /// sw x4, 0(x0).
 #[test]
-fn fixed_word(rt: HostRuntime) -> Result<(), Fail> {
+fn fixed_word(rt: HostRuntime) -> Result<()> {
     let mut words = [BRANCH, LOAD, 0x0040_2023];
     let mut memory = Shield {
         from: 0,
         to: 1,
         below: WordBank::new(&mut words),
     };
-    refused_at_8(&mut memory, 2, 5, 2)?;
+    refused_at_8(&mut memory, 2, fixed(0), Phase::T2)?;
     assert_eq!(rt; words, [BRANCH, LOAD, 0x0040_2023]);
     let bytes = [0x63, 0x02, 0, 0, 0x83, 0x21, 0, 0, 0x23, 0x20, 0x40, 0];
-    refused_at_8(&mut ReadOnlyImage::new(&bytes), 2, 5, 2)
+    refused_at_8(&mut ReadOnlyImage::new(&bytes), 2, fixed(0), Phase::T2)
+}
+
+/// The numbers of these refusals, and of the phases.
+#[test]
+fn numbers(rt: HostRuntime) {
+    assert_eq!(rt; Cause::UnalignedPc.number(), 1);
+    assert_eq!(rt; absent(16).number(), 2);
+    assert_eq!(rt; Cause::NoInstruction.number(), 3);
+    assert_eq!(rt; Cause::UnalignedAddress.number(), 4);
+    assert_eq!(rt; fixed(0).number(), 5);
+    for (phase, number) in [(Phase::T0, 0), (Phase::T1, 1), (Phase::T2, 2)] {
+        assert_eq!(rt; phase.number(), number);
+    }
 }

@@ -1,4 +1,5 @@
-use arch1::{Core, CoreFault, Ticked};
+use arch1::{Core, CoreFault, Phase, Ticked};
+use machine::Cause;
 use registers::RegisterFile;
 
 /// A core without an instruction open, with x2 as given and the other registers 0.
@@ -8,23 +9,41 @@ pub(super) fn core_at(pc: u32, x2: u32) -> Core {
     Core::new(registers, pc)
 }
 
-/// What a clock answered: 0, the next phase, and whether an instruction retired; or the number, the phase and the address of the refusal.
-pub(super) fn told(answer: Result<Ticked, CoreFault>) -> (u8, u8, u32) {
-    match answer {
-        Ok(ticked) => (0, ticked.next.number(), u32::from(ticked.retired)),
-        Err(fault) => (fault.cause.number(), fault.phase.number(), fault.address),
-    }
+/// The answer of a clock that goes on with the instruction.
+pub(super) fn on(next: Phase) -> Result<Ticked, CoreFault> {
+    Ok(Ticked {
+        next,
+        retired: false,
+    })
 }
 
-/// PC, TR, IR, DR, AR, FLG and the phase.
-pub(super) fn state(core: &Core) -> [u32; 7] {
-    [
-        core.pc,
-        core.tr,
-        core.ir,
-        core.dr,
-        core.ar,
-        u32::from(core.flg),
-        u32::from(core.phase.number()),
-    ]
+/// The answer of a clock that retires the instruction.
+pub(super) fn retired() -> Result<Ticked, CoreFault> {
+    Ok(Ticked {
+        next: Phase::T0,
+        retired: true,
+    })
+}
+
+/// The answer of a clock that is refused.
+pub(super) fn refused(cause: Cause, phase: Phase, address: u32) -> Result<Ticked, CoreFault> {
+    Err(CoreFault {
+        phase,
+        address,
+        cause,
+    })
+}
+
+/// PC, TR, IR, DR and AR, FLG and the phase.
+pub(super) fn state(core: &Core) -> ([u32; 5], bool, Phase) {
+    (
+        [core.pc, core.tr, core.ir, core.dr, core.ar],
+        core.flg,
+        core.phase,
+    )
+}
+
+/// The state of a core at `pc` with nothing else in it.
+pub(super) fn cleared(pc: u32) -> ([u32; 5], bool, Phase) {
+    ([pc, 0, 0, 0, 0], false, Phase::T0)
 }

@@ -1,5 +1,6 @@
 -- Every clock of the core keeps what it owes to RV32I by whole instructions.
-use Rattle.std.proofs.Common.{◌≡◌, ℕ, ◌+◌, ◌/◌, Bool, true, false, cond, Some, None, Ok, Err, Option, Result, sym, refl, ap, ◌∙◌, subst}
+use Rattle.std.proofs.Common.{◌≡◌, ℕ, suc, ◌+◌, ◌/◌, Bool, true, false, cond, Some, None, Ok, Err, Option, Result, refl, ap, ◌∙◌, subst}
+use Rattle.isa.specs.declared.mnemonic.Class.{Class}
 use Rattle.isa.specs.declared.mnemonic.Class.TheVariants as class
 use Rattle.alu.specs.Comparisons.{compared}
 use Rattle.alu.specs.Stores as lanes
@@ -11,14 +12,14 @@ use Rattle.actions.specs.declared.action.Action.{Action}
 use Rattle.actions.specs.declared.action.Action.TheVariants.{Comp, CompI, Lui, Auipc, Ld, St, Jal, Jalr, Br}
 use Rattle.machine.specs.Machine as machine
 use Rattle.machine.specs.Machine.{Arch, Step, went, cannot, wrap, x, aligned, caused, fetched_word, loaded_word, stepped, carried, carried_word}
+use Rattle.machine.specs.declared.cause.Cause.{Cause}
 use Rattle.machine.specs.declared.cause.Cause.TheVariants.{UnalignedPc, UnalignedAddress}
-use Rattle.memory.specs.Meaning.{refused, read_of, allowed, patched}
-use Rattle.memory.specs.declared.fault.Cause.TheVariants.{BadMask}
+use Rattle.memory.specs.Meaning.{read_of, allowed, patched}
 use Rattle.memory.specs.declared.fault.MemoryFault.{MemoryFault}
 use Rattle.memory.specs.declared.kind.Kind.{Kind}
 use Rattle.memory.specs.declared.kind.Kind.TheVariants as kind
 use Rattle.processor.specs.Accesses.{replied, words_after, word_in, written_in}
-use Rattle.processor.specs.Clocks.{Clocked}
+use Rattle.processor.specs.Clocks.{Clocked, Retires, Refuses}
 use Rattle.processor.specs.declared.access.Access.TheVariants as access
 use Rattle.arch1.proofs.Patches.{mask_fits, closed, opened}
 use Rattle.arch1.specs.Clock.{beat_of, answered, settled, outcome_of, tick_answer, ticked_core, ticked_words}
@@ -35,13 +36,20 @@ abbrev Kept : (ℕ → Kind) → Arch → Step → ℕ → Datapath → Outcome 
 Kept K a st g c o = Clocked (Owes K) clocks_of_class a st g (beat_of (answered c o)) (settled c o)
 
 module _ (K : ℕ → Kind) (a : Arch) where
+  -- a clock that is refused, and one that retires the instruction, leave nothing open
+  refuses_at : {c : Cause} {t i d r : ℕ} {f : Bool} → Refuses (Owes K) clocks_of_class a (cannot c) c a.pc (between a t i d r f) a.words
+  refuses_at = record { step = refl; at = refl; owes = idle _ _ _ _ _; kept = refl }
+
+  retires_at : {b : Arch} {k : Class} {g t i d r : ℕ} {f : Bool} → suc g ≡ clocks_of_class k → Retires (Owes K) clocks_of_class a (went b k) g (between b t i d r f) b.words
+  retires_at e = record { to = _; by = _; step = refl; owes = idle _ _ _ _ _; stored = refl; clocks = e }
+
   -- T0: the alignment of PC, then the word there
   at_word : (t i d r : ℕ) (f : Bool) → aligned a.pc 4 ≡ true → (R : Result ℕ MemoryFault) →
       read_of (a.pc / 4) (K (a.pc / 4)) (a.words (a.pc / 4)) ≡ R →
       Kept K a (carried_word K a (caused R)) 0 (between a t i d r f) (fetches (between a t i d r f) R) a.words
   at_word t i d r f e (Ok w) h =
       (fetched i w r f (ap (λ (b : Bool). cond b (machine.word_at K a a.pc) (Err UnalignedPc)) e ∙ ap caused h), refl)
-  at_word t i d r f e (Err z) h = record { step = refl; at = refl; owes = idle _ _ _ _ _; kept = refl }
+  at_word t i d r f e (Err z) h = refuses_at
 
   at_t0 : (t i d r : ℕ) (f : Bool) (b : Bool) → aligned a.pc 4 ≡ b →
       (let c = between a t i d r f in
@@ -49,7 +57,7 @@ module _ (K : ℕ → Kind) (a : Arch) where
       Kept K a (carried_word K a (cond b (machine.word_at K a a.pc) (Err UnalignedPc))) 0 c
       (cond b (fetches c (word_in (replied K a.words ask))) (refuses UnalignedPc)) (words_after K a.words ask))
   at_t0 t i d r f true e = at_word t i d r f e _ refl
-  at_t0 t i d r f false e = record { step = refl; at = refl; owes = idle _ _ _ _ _; kept = refl }
+  at_t0 t i d r f false e = refuses_at
 
   module _ (w d r : ℕ) (f : Bool) (e : fetched_word K a ≡ Ok w) where
     -- T2 of a load: the alignment of the address, then the word there
@@ -60,7 +68,7 @@ module _ (K : ℕ → Kind) (a : Arch) where
     at_loaded l rd rs1 imm y q (Ok v) h =
         let address = wrap (x a rs1 + imm) in
         (loading w v f l rd rs1 imm e y (ap (λ (b : Bool). cond b (machine.word_at K a address) (Err UnalignedAddress)) q ∙ ap caused h), refl)
-    at_loaded l rd rs1 imm y q (Err z) h = record { step = refl; at = refl; owes = idle _ _ _ _ _; kept = refl }
+    at_loaded l rd rs1 imm y q (Err z) h = refuses_at
 
     at_load : (l : Load) (rd rs1 imm : ℕ) → action_of_word w ≡ Some (Ld l rd rs1 imm) →
         (let address = wrap (x a rs1 + imm) in
@@ -69,7 +77,7 @@ module _ (K : ℕ → Kind) (a : Arch) where
         Kept K a (machine.loads a l rd address (cond b (machine.word_at K a address) (Err UnalignedAddress))) 2 (within a w d r f T2)
         (cond b (loads (within a w d r f T2) address (word_in (replied K a.words ask))) (refuses UnalignedAddress)) (words_after K a.words ask)))
     at_load l rd rs1 imm y true q = at_loaded l rd rs1 imm y q _ refl
-    at_load l rd rs1 imm y false q = record { step = refl; at = refl; owes = idle _ _ _ _ _; kept = refl }
+    at_load l rd rs1 imm y false q = refuses_at
 
     -- T2 of a store: the alignment of the address, then whether the word is there and open
     at_written : (s : Store) (rs1 rs2 imm : ℕ) (kd : Kind) →
@@ -104,58 +112,41 @@ module _ (K : ℕ → Kind) (a : Arch) where
         (cond b (stores (within a w d r f T2) address (written_in (replied K a.words ask))) (refuses UnalignedAddress)) (words_after K a.words ask)))
     at_store s rs1 rs2 imm true =
         let address = wrap (x a rs1 + imm) in
-        let v = lanes.value_of s (x a rs2) address in
-        let mask = lanes.mask_of s address in
-        let k = address / 4 in
-        subst (λ (z : Bool). Kept K a (machine.stores a s address (x a rs2) (caused (allowed k (K k)))) 2 (within a w d r f T2)
-        (stores (within a w d r f T2) address (cond z (Err (refused BadMask k)) (allowed k (K k)))) (patched K a.words k v mask))
-        (sym (mask_fits s address)) (at_written s rs1 rs2 imm (K k) refl)
-    at_store s rs1 rs2 imm false = record { step = refl; at = refl; owes = idle _ _ _ _ _; kept = refl }
+        rw (mask_fits s address) (at_written s rs1 rs2 imm (K (address / 4)) refl)
+    at_store s rs1 rs2 imm false = refuses_at
 
     -- T2, by the class
     at_t2 : (y : Option Action) → action_of_word w ≡ y →
         (let c = within a w d r f T2 in
         Kept K a (carried K a y) 2 c (executes c (replied K a.words (access_in c y)) y) (words_after K a.words (access_in c y)))
-    at_t2 None y = record { step = refl; at = refl; owes = idle _ _ _ _ _; kept = refl }
-    at_t2 (Some (Comp op rd rs1 rs2)) y = record { to = _; by = class.Comp; step = refl; owes = idle _ _ _ _ _; stored = refl; clocks = refl }
-    at_t2 (Some (CompI op rd rs1 imm)) y = record { to = _; by = class.CompI; step = refl; owes = idle _ _ _ _ _; stored = refl; clocks = refl }
-    at_t2 (Some (Lui rd imm)) y = record { to = _; by = class.Lui; step = refl; owes = idle _ _ _ _ _; stored = refl; clocks = refl }
-    at_t2 (Some (Auipc rd imm)) y = record { to = _; by = class.Auipc; step = refl; owes = idle _ _ _ _ _; stored = refl; clocks = refl }
+    at_t2 None y = refuses_at
+    at_t2 (Some (Comp op rd rs1 rs2)) y = retires_at refl
+    at_t2 (Some (CompI op rd rs1 imm)) y = retires_at refl
+    at_t2 (Some (Lui rd imm)) y = retires_at refl
+    at_t2 (Some (Auipc rd imm)) y = retires_at refl
     at_t2 (Some (Ld l rd rs1 imm)) y = at_load l rd rs1 imm y _ refl
     at_t2 (Some (St s rs1 rs2 imm)) y = at_store s rs1 rs2 imm (aligned (wrap (x a rs1 + imm)) (machine.store_size s))
-    at_t2 (Some (Jal rd imm)) y = record { to = _; by = class.Jal; step = refl; owes = idle _ _ _ _ _; stored = refl; clocks = refl }
-    at_t2 (Some (Jalr rd rs1 imm)) y = record { to = _; by = class.Jalr; step = refl; owes = idle _ _ _ _ _; stored = refl; clocks = refl }
+    at_t2 (Some (Jal rd imm)) y = retires_at refl
+    at_t2 (Some (Jalr rd rs1 imm)) y = retires_at refl
     at_t2 (Some (Br cmp rs1 rs2 imm)) y = (branching w d r cmp rs1 rs2 imm e y, refl)
 
   -- T3 of a load and of a branch
   at_t3_load : (w v : ℕ) (f : Bool) (l : Load) (rd rs1 imm : ℕ) →
       Kept K a (machine.loads a l rd (wrap (x a rs1 + imm)) (Ok v)) 3 (within a w v (wrap (x a rs1 + imm)) f T3) (finishes (within a w v (wrap (x a rs1 + imm)) f T3) (Some (Ld l rd rs1 imm))) a.words
-  at_t3_load w v f l rd rs1 imm = record { to = _; by = class.Ld; step = refl; owes = idle _ _ _ _ _; stored = refl; clocks = refl }
+  at_t3_load w v f l rd rs1 imm = retires_at refl
 
   at_t3_branch : (w d r : ℕ) (cmp : Comparison) (rs1 rs2 imm : ℕ) →
       Kept K a (carried K a (Some (Br cmp rs1 rs2 imm))) 3 (within a w d r (compared cmp (x a rs1) (x a rs2)) T3) (finishes (within a w d r (compared cmp (x a rs1) (x a rs2)) T3) (Some (Br cmp rs1 rs2 imm))) a.words
-  at_t3_branch w d r cmp rs1 rs2 imm = record { to = _; by = class.Br; step = refl; owes = idle _ _ _ _ _; stored = refl; clocks = refl }
+  at_t3_branch w d r cmp rs1 rs2 imm = retires_at refl
 
 -- every clock keeps what is owed
 pub every_clock : (K : ℕ → Kind) (a : Arch) (g : ℕ) (c : Datapath) → Owes K a g c →
     Kept K a (stepped K a) g c (outcome_of K a.words c) (ticked_words K a.words c)
 every_clock K a g c (idle t i d r f) = at_t0 K a t i d r f (aligned a.pc 4) refl
 every_clock K a g c (fetched i w r f e) = (decoded w w r f e, refl)
-every_clock K a g c (decoded w d r f e) =
-    let c = within a w d r f T2 in
-    subst (λ (st : Step). Kept K a st 2 c (outcome_of K a.words c) (ticked_words K a.words c))
-    (sym (ap (carried_word K a) e)) (at_t2 K a w d r f e (action_of_word w) refl)
-every_clock K a g c (loading w v f l rd rs1 imm e y h) =
-    let address = wrap (x a rs1 + imm) in
-    let c = within a w v address f T3 in
-    subst (λ (st : Step). Kept K a st 3 c (finishes c (action_of_word w)) a.words)
-    (sym (ap (carried_word K a) e ∙ ap (carried K a) y ∙ ap (machine.loads a l rd address) h))
-    (subst (λ (z : Option Action). Kept K a (machine.loads a l rd address (Ok v)) 3 c (finishes c z) a.words) (sym y) (at_t3_load K a w v f l rd rs1 imm))
-every_clock K a g c (branching w d r cmp rs1 rs2 imm e y) =
-    let c = within a w d r (compared cmp (x a rs1) (x a rs2)) T3 in
-    subst (λ (st : Step). Kept K a st 3 c (finishes c (action_of_word w)) a.words)
-    (sym (ap (carried_word K a) e ∙ ap (carried K a) y))
-    (subst (λ (z : Option Action). Kept K a (carried K a (Some (Br cmp rs1 rs2 imm))) 3 c (finishes c z) a.words) (sym y) (at_t3_branch K a w d r cmp rs1 rs2 imm))
+every_clock K a g c (decoded w d r f e) = rw e (at_t2 K a w d r f e (action_of_word w) refl)
+every_clock K a g c (loading w v f l rd rs1 imm e y h) = rw (e, y, h) (at_t3_load K a w v f l rd rs1 imm)
+every_clock K a g c (branching w d r cmp rs1 rs2 imm e y) = rw (e, y) (at_t3_branch K a w d r cmp rs1 rs2 imm)
 
 over : (K : ℕ → Kind) (W : ℕ → ℕ) (c : Datapath) → Keeps K W c (tick_answer K W c) (ticked_core K W c) (ticked_words K W c)
 over K W c a g e o =
@@ -163,7 +154,4 @@ over K W c a g e o =
 
 pub clock_keeps : (K : ℕ → Kind) (W : ℕ → ℕ) (c : Datapath) (r : Result Ticked CoreFault) (d : Datapath) (V : ℕ → ℕ) →
     r ≡ tick_answer K W c → d ≡ ticked_core K W c → V ≡ ticked_words K W c → Keeps K W c r d V
-clock_keeps K W c r d V p q h =
-    subst (λ (y : Result Ticked CoreFault). Keeps K W c y d V) (sym p)
-    (subst (λ (y : Datapath). Keeps K W c (tick_answer K W c) y V) (sym q)
-    (subst (λ (y : ℕ → ℕ). Keeps K W c (tick_answer K W c) (ticked_core K W c) y) (sym h) (over K W c)))
+clock_keeps K W c r d V p q h = rw (p, q, h) (over K W c)

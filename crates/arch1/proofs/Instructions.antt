@@ -1,5 +1,5 @@
 -- The clocks of one instruction: how a loop makes them, and that they make one step of the machine.
-use Rattle.std.proofs.Common.{◌≡◌, ℕ, zero, suc, ◌+◌, ◌-◌, ◌<◌, Bool, true, false, cond, Ok, Err, Result, sym, refl, ap, ◌∙◌, subst, arith}
+use Rattle.std.proofs.Common.{◌≡◌, ℕ, zero, suc, ◌+◌, ◌-◌, ◌<◌, Bool, true, false, cond, Ok, Err, Result, sym, refl, ◌∙◌, subst, arith}
 use Rattle.machine.specs.Machine.{Arch, Step, stepped}
 use Rattle.memory.specs.declared.kind.Kind.{Kind}
 use Rattle.processor.specs.Clocks.{Beat, on, retired, Clocked, Retires, Refuses}
@@ -14,44 +14,29 @@ use Rattle.arch1.specs.declared.phase.Phase.{Phase}
 use Rattle.arch1.specs.declared.phase.Phase.TheVariants.{T0}
 use Rattle.arch1.specs.declared.phase.Ticked.{Ticked}
 
--- a clock by its contract
-pub by_contract : (K K' : ℕ → Kind) → K' ≡ K → (s t : Rig) (r : Result Ticked CoreFault) →
-    r ≡ tick_answer K' s.words s.core → t.core ≡ ticked_core K' s.words s.core → t.words ≡ ticked_words K' s.words s.core →
-    (answer K s ≡ r) × (t ≡ ticked K s)
-by_contract K K' same s t r p q h =
-    subst (λ (L : ℕ → Kind). (answer L s ≡ r) × (t ≡ ticked L s)) same (sym p, λ i. record { core = q i; words = h i })
+-- the loop: a clock by its contract, from s to t with the answer r, and then what is left of four
+module _ (K K' : ℕ → Kind) (same : K' ≡ K) (s t : Rig) (r : Result Ticked CoreFault) (done : ℕ) (few : done < 4)
+    (told : r ≡ tick_answer K' s.words s.core) (came : t.core ≡ ticked_core K' s.words s.core) (held : t.words ≡ ticked_words K' s.words s.core) where
+  by_contract : (answer K s ≡ r) × (t ≡ ticked K s)
+  by_contract = subst (λ (L : ℕ → Kind). (answer L s ≡ r) × (t ≡ ticked L s)) same (sym told, λ i. record { core = came i; words = held i })
 
--- the loop: a clock, and then what is left of four
-module _ (K : ℕ → Kind) (s t : Rig) (done : ℕ) (few : done < 4) (here : t ≡ ticked K s) where
-  pub next_clock : (x : Ticked) → answer K s ≡ Ok x → x.retired ≡ false →
+  one_more : 4 - done ≡ suc (4 - (done + 1))
+  one_more = omega arith
+
+  pub next_clock : (x : Ticked) → r ≡ Ok x → x.retired ≡ false →
       (answer_for K (4 - (done + 1)) (done + 1) t ≡ answer_for K (4 - done) done s) × (rig_for K (4 - (done + 1)) t ≡ rig_for K (4 - done) s)
   unfolding answer_for rig_for
-  next_clock x e h =
-      let k = 4 - (done + 1) in
-      let one : 4 - done ≡ suc k = omega arith in (
-        ap (answer_for K k (done + 1)) here ∙ sym (ap (λ (j : ℕ). answer_for K j done s) one ∙ ap (λ (y : Result Ticked CoreFault). answer_on y (done + 1) (answer_for K k (done + 1) (ticked K s))) e ∙ ap (λ (b : Bool). cond b (Ok (done + 1)) (answer_for K k (done + 1) (ticked K s))) h),
-        ap (rig_for K k) here ∙ sym (ap (λ (j : ℕ). rig_for K j s) one ∙ ap (λ (y : Result Ticked CoreFault). rig_on y (ticked K s) (rig_for K k (ticked K s))) e ∙ ap (λ (b : Bool). cond b (ticked K s) (rig_for K k (ticked K s))) h),
-      )
+  next_clock x e h = rw (one_more, by_contract.0 ∙ e, h, by_contract.1) (refl, refl)
 
-  pub last_clock : (x : Ticked) → answer K s ≡ Ok x → x.retired ≡ true →
+  pub last_clock : (x : Ticked) → r ≡ Ok x → x.retired ≡ true →
       (Ok (done + 1) ≡ answer_for K (4 - done) done s) × (t ≡ rig_for K (4 - done) s)
   unfolding answer_for rig_for
-  last_clock x e h =
-      let k = 4 - (done + 1) in
-      let one : 4 - done ≡ suc k = omega arith in (
-        sym (ap (λ (j : ℕ). answer_for K j done s) one ∙ ap (λ (y : Result Ticked CoreFault). answer_on y (done + 1) (answer_for K k (done + 1) (ticked K s))) e ∙ ap (λ (b : Bool). cond b (Ok (done + 1)) (answer_for K k (done + 1) (ticked K s))) h),
-        here ∙ sym (ap (λ (j : ℕ). rig_for K j s) one ∙ ap (λ (y : Result Ticked CoreFault). rig_on y (ticked K s) (rig_for K k (ticked K s))) e ∙ ap (λ (b : Bool). cond b (ticked K s) (rig_for K k (ticked K s))) h),
-      )
+  last_clock x e h = rw (one_more, by_contract.0 ∙ e, h) (refl, by_contract.1)
 
-  pub refused_clock : (f : CoreFault) → answer K s ≡ Err f →
+  pub refused_clock : (f : CoreFault) → r ≡ Err f →
       (Err f ≡ answer_for K (4 - done) done s) × (t ≡ rig_for K (4 - done) s)
   unfolding answer_for rig_for
-  refused_clock f e =
-      let k = 4 - (done + 1) in
-      let one : 4 - done ≡ suc k = omega arith in (
-        sym (ap (λ (j : ℕ). answer_for K j done s) one ∙ ap (λ (y : Result Ticked CoreFault). answer_on y (done + 1) (answer_for K k (done + 1) (ticked K s))) e),
-        here ∙ sym (ap (λ (j : ℕ). rig_for K j s) one ∙ ap (λ (y : Result Ticked CoreFault). rig_on y (ticked K s) (rig_for K k (ticked K s))) e),
-      )
+  refused_clock f e = rw (one_more, by_contract.0 ∙ e) (refl, by_contract.1)
 
 -- nothing is left
 pub no_clock : (K : ℕ → Kind) (s : Rig) → (answer_for K 0 4 s ≡ Ok 4) × (rig_for K 0 s ≡ s)
@@ -95,21 +80,25 @@ module _ (K : ℕ → Kind) (a : Arch) where
       by_flag false law = go law.0 law.1
   by_answer g (Err f) s later-answer later law go = refused_by (stepped K a) f s law
 
+  -- a clock of a core that owes a
+  clocked : (g : ℕ) (s : Rig) → s.words ≡ a.words → Owes K a g s.core →
+      Clocked (Owes K) clocks_of_class a (stepped K a) g (beat_of (answer K s)) (ticked K s).core (ticked K s).words
+  clocked g s w o = rw w (every_clock K a g s.core o)
+
   finish : (k g : ℕ) (s : Rig) → g + k ≡ 4 → s.words ≡ a.words → Owes K a g s.core →
       Carries K a (stepped K a) (answer_for K k g s) (rig_for K k s)
   unfolding answer_for rig_for
   finish zero g s e w o = absurd (let f = few_clocks K a g s.core o in omega arith)
   finish (suc k) g s e w o =
       by_answer g (answer K s) (ticked K s) (answer_for K k (g + 1) (ticked K s)) (rig_for K k (ticked K s))
-      (subst (λ (V : ℕ → ℕ). Clocked (Owes K) clocks_of_class a (stepped K a) g (beat_of (answer K (rig s.core V))) (ticked K (rig s.core V)).core (ticked K (rig s.core V)).words) (sym w) (every_clock K a g s.core o))
+      (clocked g s w o)
       (λ o' w'. finish k (g + 1) (ticked K s) (omega arith) w' (subst (λ (n : ℕ). Owes K a n (ticked K s).core) (omega arith) o'))
 
   while_open : (k g : ℕ) (s : Rig) → s.words ≡ a.words → Owes K a g s.core → StillOpen K k s →
       Owes K a (g + k) (ticks K k s).core × ((ticks K k s).words ≡ a.words)
   while_open zero g s w o h = (subst (λ (n : ℕ). Owes K a n s.core) (omega arith) o, w)
   while_open (suc k) g s w o h =
-      let law = subst (λ (V : ℕ → ℕ). Clocked (Owes K) clocks_of_class a (stepped K a) g (beat_of (answer K (rig s.core V))) (ticked K (rig s.core V)).core (ticked K (rig s.core V)).words) (sym w) (every_clock K a g s.core o) in
-      let told = subst (λ (b : Beat). Clocked (Owes K) clocks_of_class a (stepped K a) g b (ticked K s).core (ticked K s).words) h.0 law in
+      let told = subst (λ (b : Beat). Clocked (Owes K) clocks_of_class a (stepped K a) g b (ticked K s).core (ticked K s).words) h.0 (clocked g s w o) in
       let rest = while_open k (suc g) (ticked K s) told.1 told.0 h.1 in
       (subst (λ (n : ℕ). Owes K a n (ticks K k (ticked K s)).core) (omega arith) rest.0, rest.1)
 
@@ -127,7 +116,4 @@ starts K c W e =
 
 pub instruction_refines : (K : ℕ → Kind) (c : Datapath) (W : ℕ → ℕ) (r : Result ℕ CoreFault) (t : Rig) → r ≡ answer_for K 4 0 (rig c W) → t ≡ rig_for K 4 (rig c W) →
     c.phase ≡ T0 → Refines K (start_of c W) (rig c W) r t
-instruction_refines K c W r t p q e =
-    subst (λ (y : Result ℕ CoreFault). Refines K (start_of c W) (rig c W) y t) (sym p)
-    (subst (λ (y : Rig). Refines K (start_of c W) (rig c W) (answer_for K 4 0 (rig c W)) y) (sym q)
-    (refines_from K (start_of c W) (rig c W) refl (starts K c W e)))
+instruction_refines K c W r t p q e = rw (p, q) (refines_from K (start_of c W) (rig c W) refl (starts K c W e))

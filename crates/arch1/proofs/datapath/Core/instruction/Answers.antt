@@ -1,6 +1,6 @@
 use Rattle.std.proofs.Common.{◌≡◌, ℕ, ◌-◌, Err, sym, ap, ◌∙◌, arith}
 use Rattle.std.proofs.lemmas.Result.{err_from_is_err_and}
-use Rattle.arch1.proofs.Instructions.{by_contract, next_clock, last_clock, refused_clock, no_clock, instruction_refines}
+use Rattle.arch1.proofs.Instructions.{next_clock, last_clock, refused_clock, no_clock, instruction_refines}
 use Rattle.arch1.specs.Refinement.{rig, answer_for, rig_for}
 use Rattle.arch1.specs.declared.phase.CoreFault.{CoreFault}
 use Rattle.arch1.proofs.datapath.Core.instruction.Goals as goal
@@ -13,9 +13,8 @@ returns-in_err-tick g c =
     let t = rig c.tick.new.self (m.words c.tick.new.memory) in
     let inv = c.loop-done.invariant in
     let e = c.tick.ensures in
-    let one = by_contract K (m.kinds c.loop-done.memory) inv.2 s t c.tick.result e.answer e.core e.words in
     let y = err_from_is_err_and c.from_residual.result c.from_residual.ensures.1 in
-    let all = refused_clock K s t c.loop-done.done (omega arith) one.1 c.in_err-tick.field-0.0 (one.0 ∙ c.in_err-tick.was) in
+    let all = refused_clock K _ inv.2 s t _ c.loop-done.done (omega arith) e.answer e.core e.words c.in_err-tick.field-0.0 c.in_err-tick.was in
     let told = y.1 ∙ ap (λ (f : CoreFault). Err f) y.2 ∙ all.0 ∙ inv.0 in
     let came = all.1 ∙ inv.1 in
     record { answer = told; state = came; kinds = e.kinds ∙ inv.2; rest = e.rest ∙ inv.3; law = instruction_refines _ _ _ _ _ told came }
@@ -28,8 +27,7 @@ returns-then-branch g c =
     let t = rig c.tick.new.self (m.words c.tick.new.memory) in
     let inv = c.loop-done.invariant in
     let e = c.tick.ensures in
-    let one = by_contract K (m.kinds c.loop-done.memory) inv.2 s t c.tick.result e.answer e.core e.words in
-    let all = last_clock K s t c.loop-done.done (omega arith) one.1 c.in_ok-tick.field-0 (one.0 ∙ c.in_ok-tick.was) c.if-branch.true in
+    let all = last_clock K _ inv.2 s t _ c.loop-done.done (omega arith) e.answer e.core e.words c.in_ok-tick.field-0 c.in_ok-tick.was c.if-branch.true in
     let told = all.0 ∙ inv.0 in
     let came = all.1 ∙ inv.1 in
     record { answer = told; state = came; kinds = e.kinds ∙ inv.2; rest = e.rest ∙ inv.3; law = instruction_refines _ _ _ _ _ told came }
@@ -42,8 +40,7 @@ loop-done-preserved g c =
     let t = rig c.tick.new.self (m.words c.tick.new.memory) in
     let inv = c.loop-done.invariant in
     let e = c.tick.ensures in
-    let one = by_contract K (m.kinds c.loop-done.memory) inv.2 s t c.tick.result e.answer e.core e.words in
-    let all = next_clock K s t c.loop-done.done (omega arith) one.1 c.in_ok-tick.field-0 (one.0 ∙ c.in_ok-tick.was) c.if-branch.false in
+    let all = next_clock K _ inv.2 s t _ c.loop-done.done (omega arith) e.answer e.core e.words c.in_ok-tick.field-0 c.in_ok-tick.was c.if-branch.false in
     (all.0 ∙ inv.0, all.1 ∙ inv.1, e.kinds ∙ inv.2, e.rest ∙ inv.3)
 
 pub returns : goal.returns

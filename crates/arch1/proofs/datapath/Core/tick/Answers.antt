@@ -9,7 +9,7 @@ returns-clause-law g c =
     let K = m.kinds c.args.memory.now in
     let W = m.words c.args.memory.now in
     let core = c.args.self.now in
+    let held : m.words c.perform-reply.new.memory ≡ ticked_words K W core = search rules in
     let told : c.settle.result ≡ tick_answer K W core = search rules in
     let came : c.settle.new.self ≡ ticked_core K W core = search rules in
-    let held : m.words c.perform-reply.new.memory ≡ ticked_words K W core = search rules in
     clock_keeps _ _ _ _ _ _ told came held

@@ -25,7 +25,7 @@ reached_stands s n t h = lives_stands s n t (reached_lives s n t h)
 kept : (count : ℕ → ℕ) (t u : State) → ((s : Start) (n : ℕ) → Reached s n t → Reached s (count n) u) → Kept count t u
 kept count t u h = record { reached = h; stands = λ s n r. reached_stands s (count n) u (h s n r) }
 
-pub begins : (s : Start) (t : State) → t ≡ new_state s.kinds s.arch.words (record { numbers = s.arch.registers }) s.arch.pc → Begins s t
+pub begins : (s : Start) (t : State) → t ≡ new_state s.kinds s.arch.words s.arch.registers s.arch.pc → Begins s t
 begins s t e =
     let here : Reached s 0 t = subst (Reached s 0) (sym e) fresh in
     record { reached = here; stands = reached_stands s 0 t here }

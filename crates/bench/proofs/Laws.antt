@@ -11,7 +11,7 @@ use Rattle.arch1.specs.Phases.{phase_number}
 use Rattle.arch1.specs.declared.phase.CoreFault.{CoreFault}
 use Rattle.arch1.specs.declared.phase.Phase.TheVariants.{T0, T1, T2, T3}
 use Rattle.arch1.specs.declared.phase.Ticked.{Ticked}
-use Rattle.journal.specs.Ring.{popped}
+use Rattle.journal.specs.Entries.{popped}
 use Rattle.journal.specs.declared.entry.Entry.{Entry}
 use Rattle.machine.specs.Machine.{Arch, went, cannot, stepped, fetched_word, wrap, x, Run, after, long}
 use Rattle.memory.specs.declared.kind.Kind.{Kind}
@@ -128,7 +128,7 @@ module _ (s : Start) (n : ℕ) (r : Run) (k q : ℕ) (there : after s.kinds s.ar
       let here : Sound s m r' v = sound _ es k' q' 0 p.4 (idle 0 0 0 0 false) clk' ret' p.8 p.5 in
       let same : v ≡ took_back u (Some e) =
       λ i'. record {
-        core = record { registers = record { numbers = sym undo.registers i' }; pc = sym undo.address i'; tr = 0; ir = 0; dr = 0; ar = 0; flg = false; phase = T0 };
+        core = record { registers = sym undo.registers i'; pc = sym undo.address i'; tr = 0; ir = 0; dr = 0; ar = 0; flg = false; phase = T0 };
         journal = es;
         clocks = k';
         retired = q';
@@ -180,7 +180,7 @@ step_lives_by s n r u (Err f) law = (r, law.2)
 pub step_lives : (s : Start) (n : ℕ) (t : State) → Lives s n t → Lives s (step_count n (step_answer t)) (stepped_state t)
 step_lives s n t o = step_lives_by s n o.0 (stepped_state t) (step_answer t) (step_law s n o.0 t o.1)
 
-pub new_lives : (s : Start) → Lives s 0 (new_state s.kinds s.arch.words (record { numbers = s.arch.registers }) s.arch.pc)
+pub new_lives : (s : Start) → Lives s 0 (new_state s.kinds s.arch.words s.arch.registers s.arch.pc)
 new_lives s = (_, sound_new s)
 
 -- what is sound stands

@@ -119,7 +119,7 @@ pub data Sound (s : Start) (n : ℕ) (r : Run) : State → Type 0 where
       Sound s n r (record { core = c; journal = j; clocks = k; retired = q; kinds = s.kinds; words = r.arch.words })
 
 -- a new bench
-pub sound_new : (s : Start) → Sound s 0 (record { arch = s.arch; longs = 0 }) (new_state s.kinds s.arch.words (record { numbers = s.arch.registers }) s.arch.pc)
+pub sound_new : (s : Start) → Sound s 0 (record { arch = s.arch; longs = 0 }) (new_state s.kinds s.arch.words s.arch.registers s.arch.pc)
 sound_new s = sound _ [] 0 0 0 refl (idle 0 0 0 0 false) refl refl tt s.fits
 
 -- the state after a clock from t that answers x and leaves the core d and the words W

@@ -5,7 +5,7 @@ use Rattle.arch1.specs.Datapath.{Datapath}
 use Rattle.arch1.specs.Phases.{phase_number}
 use Rattle.arch1.specs.declared.phase.CoreFault.{CoreFault}
 use Rattle.arch1.specs.declared.phase.Ticked.{Ticked}
-use Rattle.journal.specs.Ring.{popped, remaining}
+use Rattle.journal.specs.Entries.{popped, remaining}
 use Rattle.journal.specs.declared.entry.Entry.{Entry}
 use Rattle.memory.specs.declared.kind.Kind.{Kind}
 use Rattle.registers.specs.declared.file.RegisterFile.{RegisterFile}
@@ -151,7 +151,7 @@ closed_state s = record {
 -- an instruction is taken back: registers, bytes, PC and counters as before it
 abbrev pub put_back : Entry → State → State
 put_back e s = record {
-  core = core.idle (record { numbers = undone_registers s.core.registers.numbers e.overwritten }) e.address;
+  core = core.idle (undone_registers s.core.registers e.overwritten) e.address;
   journal = s.journal;
   clocks = down s.clocks e.clocks;
   retired = down s.retired 1;

@@ -16,52 +16,52 @@ use Rattle.arch1.specs.declared.phase.Phase.{Phase}
 use Rattle.arch1.specs.declared.phase.Phase.TheVariants.{T0, T1, T2, T3}
 use Rattle.journal.specs.declared.entry.Entry.{Entry}
 use Rattle.journal.specs.declared.entry.Overwritten.{Overwritten}
-use Rattle.journal.specs.declared.entry.Overwritten.TheVariants.{Nothing, Register, Bytes}
+use Rattle.journal.specs.declared.entry.Overwritten.TheVariants.{Register, Bytes}
 
 -- a register as it is
-abbrev pub old_register : Datapath → ℕ → Overwritten
-old_register c rd = Register rd (x c rd)
+abbrev pub old_register : Datapath → ℕ → Option Overwritten
+old_register c rd = Some (Register rd (x c rd))
 
 -- the lanes of a word as they are
-abbrev pub old_bytes_in : ℕ → ℕ → Result ℕ MemoryFault → Overwritten
-old_bytes_in k mask (Ok w) = Bytes k w mask
-old_bytes_in k mask (Err f) = Nothing
+abbrev pub old_bytes_in : ℕ → ℕ → Result ℕ MemoryFault → Option Overwritten
+old_bytes_in k mask (Ok w) = Some (Bytes k w mask)
+old_bytes_in k mask (Err f) = None
 
-abbrev pub overwritten_bytes : (ℕ → Kind) → (ℕ → ℕ) → ℕ → ℕ → Overwritten
+abbrev pub overwritten_bytes : (ℕ → Kind) → (ℕ → ℕ) → ℕ → ℕ → Option Overwritten
 overwritten_bytes K W k mask = old_bytes_in k mask (read_of k (K k) (W k))
 
 -- what a clock writes over in T2 and in T3, by the class
-abbrev pub overwritten_in_t2 : (ℕ → Kind) → (ℕ → ℕ) → Datapath → Option Action → Overwritten
-overwritten_in_t2 K W c None = Nothing
+abbrev pub overwritten_in_t2 : (ℕ → Kind) → (ℕ → ℕ) → Datapath → Option Action → Option Overwritten
+overwritten_in_t2 K W c None = None
 overwritten_in_t2 K W c (Some (Comp op rd rs1 rs2)) = old_register c rd
 overwritten_in_t2 K W c (Some (CompI op rd rs1 imm)) = old_register c rd
 overwritten_in_t2 K W c (Some (Lui rd imm)) = old_register c rd
 overwritten_in_t2 K W c (Some (Auipc rd imm)) = old_register c rd
-overwritten_in_t2 K W c (Some (Ld l rd rs1 imm)) = Nothing
+overwritten_in_t2 K W c (Some (Ld l rd rs1 imm)) = None
 overwritten_in_t2 K W c (Some (St s rs1 rs2 imm)) = let address = wrap (x c rs1 + imm) in overwritten_bytes K W (address / 4) (mask_of s address)
 overwritten_in_t2 K W c (Some (Jal rd imm)) = old_register c rd
 overwritten_in_t2 K W c (Some (Jalr rd rs1 imm)) = old_register c rd
-overwritten_in_t2 K W c (Some (Br cmp rs1 rs2 imm)) = Nothing
+overwritten_in_t2 K W c (Some (Br cmp rs1 rs2 imm)) = None
 
-abbrev pub overwritten_in_t3 : Datapath → Option Action → Overwritten
-overwritten_in_t3 c None = Nothing
-overwritten_in_t3 c (Some (Comp op rd rs1 rs2)) = Nothing
-overwritten_in_t3 c (Some (CompI op rd rs1 imm)) = Nothing
-overwritten_in_t3 c (Some (Lui rd imm)) = Nothing
-overwritten_in_t3 c (Some (Auipc rd imm)) = Nothing
+abbrev pub overwritten_in_t3 : Datapath → Option Action → Option Overwritten
+overwritten_in_t3 c None = None
+overwritten_in_t3 c (Some (Comp op rd rs1 rs2)) = None
+overwritten_in_t3 c (Some (CompI op rd rs1 imm)) = None
+overwritten_in_t3 c (Some (Lui rd imm)) = None
+overwritten_in_t3 c (Some (Auipc rd imm)) = None
 overwritten_in_t3 c (Some (Ld l rd rs1 imm)) = old_register c rd
-overwritten_in_t3 c (Some (St s rs1 rs2 imm)) = Nothing
-overwritten_in_t3 c (Some (Jal rd imm)) = Nothing
-overwritten_in_t3 c (Some (Jalr rd rs1 imm)) = Nothing
-overwritten_in_t3 c (Some (Br cmp rs1 rs2 imm)) = Nothing
+overwritten_in_t3 c (Some (St s rs1 rs2 imm)) = None
+overwritten_in_t3 c (Some (Jal rd imm)) = None
+overwritten_in_t3 c (Some (Jalr rd rs1 imm)) = None
+overwritten_in_t3 c (Some (Br cmp rs1 rs2 imm)) = None
 
-abbrev pub overwritten_in : (ℕ → Kind) → (ℕ → ℕ) → Datapath → Phase → Overwritten
-overwritten_in K W c T0 = Nothing
-overwritten_in K W c T1 = Nothing
+abbrev pub overwritten_in : (ℕ → Kind) → (ℕ → ℕ) → Datapath → Phase → Option Overwritten
+overwritten_in K W c T0 = None
+overwritten_in K W c T1 = None
 overwritten_in K W c T2 = overwritten_in_t2 K W c (action_of_word c.ir)
 overwritten_in K W c T3 = overwritten_in_t3 c (action_of_word c.ir)
 
-abbrev pub overwritten_by : (ℕ → Kind) → (ℕ → ℕ) → Datapath → Overwritten
+abbrev pub overwritten_by : (ℕ → Kind) → (ℕ → ℕ) → Datapath → Option Overwritten
 overwritten_by K W c = overwritten_in K W c c.phase
 
 -- the open instruction as the journal would keep it after this clock
@@ -69,12 +69,12 @@ abbrev pub entry_of : (ℕ → Kind) → (ℕ → ℕ) → Datapath → Entry
 entry_of K W c = record { address = c.tr; word = c.ir; clocks = phase_number c.phase + 1; overwritten = overwritten_by K W c }
 
 -- the registers and the words with what was written over put back
-abbrev pub undone_registers : List ℕ → Overwritten → List ℕ
-undone_registers rs Nothing = rs
-undone_registers rs (Register n v) = put_into rs n v
-undone_registers rs (Bytes k v mask) = rs
+abbrev pub undone_registers : List ℕ → Option Overwritten → List ℕ
+undone_registers rs None = rs
+undone_registers rs (Some (Register n v)) = put_into rs n v
+undone_registers rs (Some (Bytes k v mask)) = rs
 
-abbrev pub undone_words : (ℕ → Kind) → (ℕ → ℕ) → Overwritten → ℕ → ℕ
-undone_words K W Nothing = W
-undone_words K W (Register n v) = W
-undone_words K W (Bytes k v mask) = patched K W k v mask
+abbrev pub undone_words : (ℕ → Kind) → (ℕ → ℕ) → Option Overwritten → ℕ → ℕ
+undone_words K W None = W
+undone_words K W (Some (Register n v)) = W
+undone_words K W (Some (Bytes k v mask)) = patched K W k v mask

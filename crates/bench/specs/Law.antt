@@ -20,7 +20,7 @@ pub record Start : Type 0 where
   pub fits : (k : ℕ) → arch.words k < 2 ^ 32
 
 abbrev pub start_of : (K : ℕ → Kind) (W : ℕ → ℕ) → ((k : ℕ) → W k < 2 ^ 32) → RegisterFile → ℕ → Start
-start_of K W fits rs p = record { kinds = K; arch = record { pc = p; registers = rs.numbers; words = W }; fits = fits }
+start_of K W fits rs p = record { kinds = K; arch = record { pc = p; registers = rs; words = W }; fits = fits }
 
 -- of a new bench over a memory with this meaning
 abbrev pub start_over : {M : Type 0} → Ghosts M → M → RegisterFile → ℕ → Start
@@ -41,7 +41,7 @@ pub record Stands (s : Start) (n : ℕ) (t : State) : Type 0 where
   pub there : after s.kinds s.arch n ≡ Some come
   -- registers and all bytes are the machine's, and between instructions PC is too
   pub kinds : t.kinds ≡ s.kinds
-  pub registers : t.core.registers.numbers ≡ come.arch.registers
+  pub registers : t.core.registers ≡ come.arch.registers
   pub words : t.words ≡ come.arch.words
   pub pc : t.core.phase ≡ T0 → t.core.pc ≡ come.arch.pc
   -- three clocks for each, one more for each load and branch among them, and those of the open instruction
@@ -68,7 +68,7 @@ back_count n (Err f) = n
 
 -- some calls on a new bench of s left it in the state t, and by their answers n instructions stand
 pub data Reached (s : Start) : ℕ → State → Type 0 where
-  fresh : Reached s 0 (new_state s.kinds s.arch.words (record { numbers = s.arch.registers }) s.arch.pc)
+  fresh : Reached s 0 (new_state s.kinds s.arch.words s.arch.registers s.arch.pc)
   ticked : (n : ℕ) (t : State) → Reached s n t → Reached s (tick_count n (tick_answer t)) (ticked_state t)
   did_step : (n : ℕ) (t : State) → Reached s n t → Reached s (step_count n (step_answer t)) (stepped_state t)
   did_run : (n m : ℕ) (t : State) → Reached s n t → Reached s (run_count n (run_answer m t)) (ran_state m t)

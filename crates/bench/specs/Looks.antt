@@ -25,7 +25,7 @@ abbrev pub byte_answer : ℕ → State → Result ℕ LookFault
 byte_answer address s = lane_of (address % 4) (read_of (address / 4) (s.kinds (address / 4)) (s.words (address / 4)))
 
 abbrev pub look_answer : Look → State → Result ℕ LookFault
-look_answer (look.Register n) s = cond (nat_lt 31 n) (Err NoRegister) (Ok (value_of s.core.registers.numbers n))
+look_answer (look.Register n) s = cond (nat_lt 31 n) (Err NoRegister) (Ok (value_of s.core.registers n))
 look_answer (look.Byte address) s = byte_answer address s
 look_answer look.Pc s = Ok s.core.pc
 look_answer look.Tr s = Ok s.core.tr

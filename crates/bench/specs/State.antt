@@ -1,7 +1,6 @@
 -- What a bench holds: the core, the journal, newest first, the two counters, and the meaning of its memory.
 use Rattle.std.specs.Prelude.{ℕ, List}
-use Rattle.arch1.specs.Datapath.{Datapath, datapath_of}
-use Rattle.journal.specs.Ring.{listed}
+use Rattle.arch1.specs.Datapath.{Datapath}
 use Rattle.journal.specs.declared.entry.Entry.{Entry}
 use Rattle.memory.specs.declared.interfaces.ReadMemory.{Ghosts}
 use Rattle.memory.specs.declared.kind.Kind.{Kind}
@@ -18,8 +17,8 @@ pub record State : Type 0 where
 -- the state of a bench over a memory with this meaning
 abbrev pub state_of : {M : Type 0} → Ghosts M → Bench M → State
 state_of m b = record {
-  core = datapath_of b.core;
-  journal = listed b.journal;
+  core = b.core;
+  journal = b.journal;
   clocks = b.clocks;
   retired = b.retired;
   kinds = m.kinds b.memory;

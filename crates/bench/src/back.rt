@@ -18,9 +18,9 @@ impl<M: WriteMemory> Bench<M> {
     {
         let mut registers = self.core.registers;
         match entry.overwritten {
-            Overwritten::Nothing => {}
-            Overwritten::Register { number, value } => registers.put(number, value),
-            Overwritten::Bytes { word, value, mask } => {
+            None => {}
+            Some(Overwritten::Register { number, value }) => registers.put(number, value),
+            Some(Overwritten::Bytes { word, value, mask }) => {
                 let _ = perform(&mut self.memory, Access::Write { word, value, mask });
             }
         }

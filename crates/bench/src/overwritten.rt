@@ -1,28 +1,25 @@
-ghost use Rattle.std.specs.Prelude.{◌≡◌, ◌+◌, ◌%◌, ◌^◌};
-ghost use Rattle.memory.specs.Meaning.{patched};
-ghost use Rattle.arch1.specs.Datapath.{datapath_of};
-ghost use Rattle.bench.specs.Entries.{overwritten_by, overwritten_bytes, undone_words};
-ghost use Rattle.alu.specs.Stores.{mask_of};
+ghost use Rattle.std.specs.Prelude.{◌≡◌};
+ghost use Rattle.bench.specs.Entries.{overwritten_by, overwritten_bytes};
 
 use actions::Action;
 use alu::store_lanes;
 use arch1::{Core, Phase};
 use journal::Overwritten;
-use memory::{ReadMemory, WriteMemory};
+use memory::ReadMemory;
 
 // The word as it is before a store writes the lanes of the mask.
-fn old_bytes<M: ReadMemory>(memory: &M, word: u32, mask: u8) -> Overwritten
+fn old_bytes<M: ReadMemory>(memory: &M, word: u32, mask: u8) -> Option<Overwritten>
     ensures { result ≡ overwritten_bytes (M.ReadMemory.kinds memory.now) (M.ReadMemory.words memory.now) word mask }
 {
-    match memory.read(word) {
-        Ok(value) => Overwritten::Bytes { word, value, mask },
-        Err(_) => Overwritten::Nothing,
-    }
+    memory
+        .read(word)
+        .ok()
+        .map(|value| Overwritten::Bytes { word, value, mask })
 }
 
 // What the next clock writes over if it retires the instruction.
-pub(super) fn overwritten<M: ReadMemory>(core: &Core, memory: &M) -> Overwritten
-    ensures { result ≡ overwritten_by (M.ReadMemory.kinds memory.now) (M.ReadMemory.words memory.now) (datapath_of core.now) }
+pub(super) fn overwritten<M: ReadMemory>(core: &Core, memory: &M) -> Option<Overwritten>
+    ensures { result ≡ overwritten_by (M.ReadMemory.kinds memory.now) (M.ReadMemory.words memory.now) core.now }
 {
     match (core.phase, core.decoded()) {
         (Phase::T2, Some(Action::Comp { rd, .. }))
@@ -31,10 +28,10 @@ pub(super) fn overwritten<M: ReadMemory>(core: &Core, memory: &M) -> Overwritten
         | (Phase::T2, Some(Action::Auipc { rd, .. }))
         | (Phase::T2, Some(Action::Jal { rd, .. }))
         | (Phase::T2, Some(Action::Jalr { rd, .. }))
-        | (Phase::T3, Some(Action::Ld { rd, .. })) => Overwritten::Register {
+        | (Phase::T3, Some(Action::Ld { rd, .. })) => Some(Overwritten::Register {
             number: rd,
             value: core.registers.get(rd),
-        },
+        }),
         (
             Phase::T2,
             Some(
@@ -50,6 +47,6 @@ pub(super) fn overwritten<M: ReadMemory>(core: &Core, memory: &M) -> Overwritten
             let lanes = store_lanes(store, core.registers.get(rs2), address);
             old_bytes(memory, address / 4, lanes.mask)
         }
-        _ => Overwritten::Nothing,
+        _ => None,
     }
 }

@@ -9,7 +9,7 @@ use Rattle.session.specs.declared.call.Call.{Call}
 
 -- a new bench of s
 abbrev pub fresh_of : Start → State
-fresh_of s = new_state s.kinds s.arch.words (record { numbers = s.arch.registers }) s.arch.pc
+fresh_of s = new_state s.kinds s.arch.words s.arch.registers s.arch.pc
 
 -- the calls cs on a new bench of s gave these answers and left it in the state t; before the first call and after each,
 -- as many instructions of RV32I stand as the answers so far say

@@ -28,7 +28,7 @@ impl From<Entry> for Stepped {
 }
 
 /// Why a run stops before its last step.
-#[derive(Clone, Copy)]
+#[derive(Clone, Copy, PartialEq, Eq, Debug)]
 pub enum Stop {
     /// It is longer than 1,000,000 steps, and did not begin.
     TooMany,
@@ -58,7 +58,7 @@ impl From<CoreFault> for Stop {
 }
 
 /// A run that stopped: how many steps were done before, and why.
-#[derive(Clone, Copy)]
+#[derive(Clone, Copy, PartialEq, Eq, Debug)]
 pub struct RunFault {
     pub done: u32,
     pub stop: Stop,

@@ -1,5 +1,4 @@
 ghost use Rattle.std.specs.Prelude.{◌≡◌};
-ghost use Rattle.arch1.specs.Clock.{idle};
 ghost use Rattle.bench.specs.Calls.{back_answer, back_state, put_back, closed_state};
 ghost use Rattle.bench.specs.Law.{BackKept};
 ghost use Rattle.bench.specs.State.{state_of};
@@ -7,7 +6,7 @@ ghost use Rattle.bench.specs.State.{state_of};
 use super::answers::BackFault;
 use super::bench::Bench;
 use journal::{Entry, Overwritten};
-use memory::{MemoryFault, WriteMemory};
+use memory::WriteMemory;
 use processor::{Access, perform};
 
 impl<M: WriteMemory> Bench<M> {

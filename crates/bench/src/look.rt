@@ -32,7 +32,7 @@ pub enum Look {
 }
 
 /// Why a look is refused.
-#[derive(Clone, Copy)]
+#[derive(Clone, Copy, PartialEq, Eq, Debug)]
 pub enum LookFault {
     /// The register number is above 31.
     NoRegister,

@@ -12,7 +12,7 @@ pub enum Call {
 }
 
 /// What a call answered.
-#[derive(Clone, Copy)]
+#[derive(Clone, Copy, PartialEq, Eq, Debug)]
 pub enum Answer {
     Ticked(Result<Ticked, CoreFault>),
     Stepped(Result<Stepped, CoreFault>),

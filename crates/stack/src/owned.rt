@@ -6,7 +6,7 @@ use memory::{MemoryFault, ReadMemory, WriteMemory};
 
 /// The settings of a stack: the left store is placed at `base`, the right one has a shield from `from` to `to`, and the two are
 /// joined at `at`.
-#[derive(Clone, Copy)]
+#[derive(Clone, Copy, PartialEq, Eq, Debug)]
 pub struct Settings {
     pub base: u32,
     pub from: u32,

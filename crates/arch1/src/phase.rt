@@ -17,12 +17,7 @@ impl Phase {
     pub fn number(self) -> u8
         ensures { result ≡ phase_number self }
     {
-        match self {
-            Phase::T0 => 0,
-            Phase::T1 => 1,
-            Phase::T2 => 2,
-            Phase::T3 => 3,
-        }
+        self as u8
     }
 }
 

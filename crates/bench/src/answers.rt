@@ -78,7 +78,7 @@ impl RunFault {
 #[derive(Clone, Copy, PartialEq, Eq, Debug)]
 pub enum BackFault {
     /// None is open, and the journal is empty.
-    NothingToTakeBack,
+    NothingToTakeBack = 6,
 }
 
 impl BackFault {
@@ -86,8 +86,6 @@ impl BackFault {
     pub fn number(self) -> u8
         ensures { result ≡ back_number self }
     {
-        match self {
-            BackFault::NothingToTakeBack => 6,
-        }
+        self as u8
     }
 }

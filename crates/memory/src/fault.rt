@@ -6,11 +6,11 @@ ghost use Rattle.memory.specs.Refusals.{number_of};
 #[derive(Clone, Copy, PartialEq, Eq, Debug)]
 pub enum Cause {
     /// The word is absent.
-    NoWord,
+    NoWord = 2,
     /// The word is fixed.
-    FixedWord,
+    FixedWord = 5,
     /// The mask is above 15.
-    BadMask,
+    BadMask = 9,
 }
 
 impl Cause {
@@ -18,11 +18,7 @@ impl Cause {
     pub fn number(self) -> u8
         ensures { result ≡ number_of self }
     {
-        match self {
-            Cause::NoWord => 2,
-            Cause::FixedWord => 5,
-            Cause::BadMask => 9,
-        }
+        self as u8
     }
 
     /// The refusal of a call for word `word`, for this cause.

@@ -39,9 +39,9 @@ module _ (K K' : ℕ → Kind) (same : K' ≡ K) (s t : Rig) (r : Result Ticked 
   refused_clock f e = rw (one_more, by_contract.0 ∙ e) (refl, by_contract.1)
 
 -- nothing is left
-pub no_clock : (K : ℕ → Kind) (s : Rig) → (answer_for K 0 4 s ≡ Ok 4) × (rig_for K 0 s ≡ s)
+pub no_clock : (K : ℕ → Kind) (s : Rig) (done : ℕ) → done ≡ 4 → (Ok 4 ≡ answer_for K (4 - done) done s) × (s ≡ rig_for K (4 - done) s)
 unfolding answer_for rig_for
-no_clock K s = (refl, refl)
+no_clock K s done e = rw e (refl, refl)
 
 -- no instruction is open after four clocks
 few_clocks : (K : ℕ → Kind) (a : Arch) (g : ℕ) (c : Datapath) → Owes K a g c → g < 4

@@ -7,7 +7,11 @@ abbrev pub invariant-loop-done : goal.invariant-loop-done
 invariant-loop-done g l =
     let m = g.M.ReadMemory in
     let K = m.kinds l.initial.memory in
-    (answer_for K (4 - l.done) l.done (rig l.self (m.words l.memory)) ≡ answer_for K 4 0 (rig l.initial.self (m.words l.initial.memory)))
-    × (rig_for K (4 - l.done) (rig l.self (m.words l.memory)) ≡ rig_for K 4 (rig l.initial.self (m.words l.initial.memory)))
-    × (m.kinds l.memory ≡ K)
-    × (g.M.WriteMemory.rest l.memory ≡ g.M.WriteMemory.rest l.initial.memory)
+    let s = rig l.self (m.words l.memory) in
+    let start = rig l.initial.self (m.words l.initial.memory) in
+    record {
+      answer : answer_for K (4 - l.done) l.done s ≡ answer_for K 4 0 start;
+      state : rig_for K (4 - l.done) s ≡ rig_for K 4 start;
+      kinds : m.kinds l.memory ≡ K;
+      rest : g.M.WriteMemory.rest l.memory ≡ g.M.WriteMemory.rest l.initial.memory;
+    }

@@ -6,10 +6,10 @@ use machine::Cause;
 /// The four clocks of an instruction; most take only the first three.
 #[derive(Clone, Copy, PartialEq, Eq, Debug)]
 pub enum Phase {
-    T0,
-    T1,
-    T2,
-    T3,
+    T0 = 0,
+    T1 = 1,
+    T2 = 2,
+    T3 = 3,
 }
 
 impl Phase {

@@ -10,6 +10,7 @@ mod calls;
 /// The newest 256 instructions that retired, or all of them while there are fewer.
 #[derive(Drop)]
 pub struct Journal {
+    // An array with its count beside it: a journal takes no memory from an allocator.
     entries: [Entry; 256],
     // The place of the next entry; the newest stands just before it.
     next: usize,

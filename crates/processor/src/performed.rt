@@ -4,6 +4,9 @@ ghost use Rattle.processor.specs.Accesses.{replied, words_after, suits};
 use super::access::{Access, Reply};
 use memory::WriteMemory;
 
+// That kinds and rest stay is two clauses here and at each clock: a definition of both would take the memory's two members,
+// and be longer where it stands.
+
 /// Makes the access: what the memory answers, and what it holds afterwards.
 #[tactic(auto, using(crate::proofs::Whole::patched_whole))]
 pub fn perform<M: WriteMemory>(memory: &mut M, access: Access) -> Reply

@@ -1,12 +1,12 @@
 -- Each call keeps the law, whatever calls came before it.
-use Rattle.std.proofs.Common.{◌≡◌, ℕ, ◌+◌, Err, Result, sym, subst, arith}
+use Rattle.std.proofs.Common.{◌≡◌, ℕ, ◌+◌, Err, Result, arith}
 use Rattle.arch1.specs.declared.phase.CoreFault.{CoreFault}
 use Rattle.arch1.specs.declared.phase.Ticked.{Ticked}
 use Rattle.memory.specs.declared.interfaces.ReadMemory.{Ghosts}
 use Rattle.registers.specs.declared.file.RegisterFile.{RegisterFile}
 use Rattle.bench.proofs.Laws.{Lives, new_lives, tick_lives, step_lives, run_lives, back_lives, lives_stands}
 use Rattle.bench.specs.Calls.{new_state, tick_answer, ticked_state, step_answer, stepped_state, run_answer, ran_state, back_answer, back_state}
-use Rattle.bench.specs.Law.{Start, Stands, tick_count, step_count, run_count, back_count, Reached, fresh, ticked, did_step, did_run, went_back, Kept, TickKept, StepKept, RunKept, BackKept, Begins, BeginsOver, start_over}
+use Rattle.bench.specs.Law.{Start, Stands, tick_count, step_count, run_count, back_count, Reached, fresh, ticked, did_step, did_run, went_back, Kept, TickKept, StepKept, RunKept, BackKept, BeginsOver, start_over}
 use Rattle.bench.specs.State.{State}
 use Rattle.bench.specs.declared.answers.BackFault.{BackFault}
 use Rattle.bench.specs.declared.answers.RunFault.{RunFault}
@@ -25,19 +25,17 @@ reached_stands s n t h = lives_stands s n t (reached_lives s n t h)
 kept : (count : ℕ → ℕ) (t u : State) → ((s : Start) (n : ℕ) → Reached s n t → Reached s (count n) u) → Kept count t u
 kept count t u h = record { reached = h; stands = λ s n r. reached_stands s (count n) u (h s n r) }
 
-pub begins : (s : Start) (t : State) → t ≡ new_state s.kinds s.arch.words s.arch.registers s.arch.pc → Begins s t
-begins s t e =
-    let here : Reached s 0 t = subst (Reached s 0) (sym e) fresh in
-    record { reached = here; stands = reached_stands s 0 t here }
-
-pub begins_over : {M : Type 0} (m : Ghosts M) (memory : M) (rs : RegisterFile) (p : ℕ) (t : State) → t ≡ new_state (m.kinds memory) (m.words memory) rs p → BeginsOver m memory rs p t
+pub begins_over : {M : Type 0} (m : Ghosts M) (memory : M) (rs : RegisterFile) (p : ℕ) (t : State) → t ≡ new_state (m.kinds memory) (m.words memory) rs p →
+    BeginsOver m memory rs p t
 unfolding BeginsOver
-begins_over m memory rs p t e = begins (start_over m memory rs p) t e
+begins_over m memory rs p t e =
+    let here : Reached (start_over m memory rs p) 0 t = rw e fresh in
+    record { reached = here; stands = reached_stands _ 0 t here }
 
 -- a run that was refused before its first step
 pub not_run_kept : (f : RunFault) (t : State) → f.done ≡ 0 → RunKept (Err f) t t
 unfolding RunKept
-not_run_kept f t e = kept (λ n. n + f.done) t t (λ s n h. let same : n ≡ n + f.done = omega arith in subst (λ (k : ℕ). Reached s k t) same h)
+not_run_kept f t e = kept (λ n. n + f.done) t t (λ s n h. let same : n + f.done ≡ n = omega arith in rw same h)
 
 pub tick_kept : (t u : State) (r : Result Ticked CoreFault) → r ≡ tick_answer t → u ≡ ticked_state t → TickKept r t u
 unfolding TickKept

@@ -16,6 +16,7 @@ impl<M: WriteMemory> Bench<M> {
         ensures rest { M.WriteMemory.rest self.new.memory ≡ M.WriteMemory.rest self.old.memory }
         ensures law { StepKept result (state_of M.ReadMemory self.old) (state_of M.ReadMemory self.new) }
     {
+        // No instruction takes more than four clocks.
         loop {
             if let Some(entry) = self.advance()? {
                 return Ok(entry.into());

@@ -24,7 +24,6 @@ returns-in_err-map_err g c =
 
 pub loop-done-preserved : goal.loop-done-preserved
 loop-done-preserved g c =
-    let m = g.M.ReadMemory in
     let inv = c.loop-done.invariant in
     let e = c.step.ensures in
     let x = c.in_ok-map_err.field-0 in

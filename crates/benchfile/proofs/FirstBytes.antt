@@ -44,3 +44,6 @@ cut n bytes many less =
 
 pub decides : (n : ℕ) → 32792 < n → Decides n
 decides n many bytes = ⊎_elim (cut n bytes many) (λ h. ap file_of (take_all n bytes h)) (cases_lt n (length bytes))
+
+pub enough : Decides 32793
+enough = decides 32793 (lit< tt)

@@ -1,6 +1,12 @@
 /// The format's only version.
 pub const VERSION: u16 = 1;
 
+/// How many bytes stand before the image.
+pub const HEADER_LENGTH: usize = 24;
+
+/// The longest image, in bytes.
+pub const LONGEST_IMAGE: u32 = 32_768;
+
 /// What a bench file says.
 #[derive(Clone, Copy)]
 pub struct BenchFile<'a> {

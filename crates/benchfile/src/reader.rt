@@ -3,11 +3,8 @@ ghost use Rattle.benchfile.specs.Format.{checked, fields_of, file_of};
 ghost use Rattle.benchfile.specs.Laws.{WholeWords};
 ghost use Rattle.benchfile.specs.Views.{fields_in, fields_read, file_read};
 
-use super::file::{BenchFile, VERSION};
+use super::file::{BenchFile, LONGEST_IMAGE, VERSION};
 use super::refusals::Refusal;
-
-/// The longest image, in bytes.
-const LONGEST_IMAGE: u32 = 32_768;
 
 /// How many addresses there are.
 const ADDRESSES: u64 = 1 << 32;
@@ -28,6 +25,7 @@ struct Fields<'a> {
 }
 
 /// The fields of the file; refused where it is too short or lacks the mark.
+#[tactic(auto, using(std::proofs::lemmas::List::take_rest, std::proofs::lemmas::Bool::Decides::nat_tests))]
 fn take_apart<'a>(bytes: &'a [u8]) -> Result<Fields<'a>, Refusal>
     ensures { fields_read result ≡ fields_of bytes.now }
 {
@@ -79,7 +77,7 @@ fn judge<'a>(fields: Fields<'a>) -> Result<BenchFile<'a>, Refusal>
 {
     let Fields {
         version,
-        reserved: [z0, z1, z2],
+        reserved,
         start,
         base,
         length,
@@ -89,7 +87,7 @@ fn judge<'a>(fields: Fields<'a>) -> Result<BenchFile<'a>, Refusal>
     if version != VERSION {
         return Err(Refusal::Version);
     }
-    if z0 != 0 || z1 != 0 || z2 != 0 {
+    if reserved != [0; 3] {
         return Err(Refusal::Header);
     }
     if base % 4 != 0 || length % 4 != 0 {

@@ -2,10 +2,10 @@ ghost use Rattle.std.specs.Prelude.{◌≡◌};
 ghost use Rattle.benchfile.specs.Header.{header_of};
 ghost use Rattle.benchfile.specs.Laws.{GetsTheVerdict, ReadsBack};
 
-use super::file::VERSION;
+use super::file::{HEADER_LENGTH, VERSION};
 
-/// The mark, the version, three zeros and the four numbers, the lowest byte of each first.
-fn lay_out(start: u32, base: u32, length: u32, limit: u32) -> [u8; 24]
+// The mark, the version, three zeros and the four numbers, the lowest byte of each first.
+fn lay_out(start: u32, base: u32, length: u32, limit: u32) -> [u8; HEADER_LENGTH]
     ensures { result ≡ header_of start base length limit }
 {
     let [v0, v1] = VERSION.to_le_bytes();
@@ -19,22 +19,14 @@ fn lay_out(start: u32, base: u32, length: u32, limit: u32) -> [u8; 24]
     ]
 }
 
-// The same, with what the reader makes of it.
-fn judged_header(start: u32, base: u32, length: u32, limit: u32) -> [u8; 24]
+/// The bytes that stand before an image of `length` bytes.
+///
+/// It refuses nothing: `read` judges the numbers, with the image that follows.
+#[tactic(auto, using(crate::proofs::Headers::verdict_of, crate::proofs::Headers::reads_back_lem))]
+pub fn header(start: u32, base: u32, length: u32, limit: u32) -> [u8; HEADER_LENGTH]
     ensures bytes { result ≡ header_of start base length limit }
     ensures verdict { GetsTheVerdict result start base length limit }
     ensures reads_back { ReadsBack result start base limit }
 {
     lay_out(start, base, length, limit)
-}
-
-/// The 24 bytes that stand before an image of `length` bytes.
-///
-/// It refuses nothing: `read` judges the numbers, with the image that follows.
-pub fn header(start: u32, base: u32, length: u32, limit: u32) -> [u8; 24]
-    ensures bytes { result ≡ header_of start base length limit }
-    ensures verdict { GetsTheVerdict result start base length limit }
-    ensures reads_back { ReadsBack result start base limit }
-{
-    judged_header(start, base, length, limit)
 }

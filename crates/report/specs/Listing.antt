@@ -1,5 +1,5 @@
 -- A listing: the lines of words that stand one after another, and then the line of the counts.
-use Rattle.std.specs.Prelude.{◌≡◌, ℕ, ◌+◌, ◌%◌, ◌^◌, Bool, cond, List, [], ◌∷◌, ◌++◌, length, codes}
+use Rattle.std.specs.Prelude.{◌≡◌, ℕ, ◌+◌, ◌%◌, ◌^◌, List, [], ◌∷◌, ◌++◌, length, codes}
 use Rattle.isa.specs.Reading.{Reads}
 use Rattle.isa.specs.declared.instruction.Instruction.{Instruction}
 use Rattle.assembly.specs.Assembly.{text_of}
@@ -11,11 +11,11 @@ pub data Listed : ℕ → List ℕ → List ℕ → ℕ → Type 0 where
   instruction : {address word : ℕ} {words text : List ℕ} {count : ℕ} (i : Instruction) → Reads word i → Listed ((address + 4) % 2 ^ 32) words text count → Listed address (word ∷ words) (line_of address word (text_of i) ++ text) (count + 1)
   none : {address word : ℕ} {words text : List ℕ} {count : ℕ} → ((i : Instruction) → Reads word i → ⊥) → Listed ((address + 4) % 2 ^ 32) words text count → Listed address (word ∷ words) (line_of address word (codes "no instruction") ++ text) count
 
--- the text after is the text before and the line of the word; `reads` says whether the word reads as an instruction
-pub record Grows (address word : ℕ) (before after : List ℕ) (reads : Bool) : Type 0 where
-  pub line : List ℕ
-  pub longer : after ≡ before ++ line
-  pub listed : Listed address (word ∷ []) line (cond reads 1 0)
+-- the text after is the text before and the lines of the words, the first of them at the base
+pub record Adds (base : ℕ) (words before after : List ℕ) (instructions : ℕ) : Type 0 where
+  pub lines : List ℕ
+  pub longer : after ≡ before ++ lines
+  pub listed : Listed base words lines instructions
 
 -- the bytes are the listing of the words, the first of them at the base
 pub record Lists (base : ℕ) (words bytes : List ℕ) : Type 0 where

@@ -5,5 +5,5 @@
 mod lines;
 mod whole;
 
-pub use lines::{refused_line, summary_line, word_line};
+pub use lines::{RefusedLine, SummaryLine, WordLine};
 pub use whole::listing;

@@ -1,39 +1,42 @@
 ghost use Rattle.std.specs.Prelude.{IfOk, string_bytes};
-ghost use Rattle.report.specs.Listing.{Grows, Lists};
+ghost use Rattle.report.specs.Listing.{Adds, Lists};
 
-use super::lines::{summary_line, word_line};
+use super::lines::{SummaryLine, WordLine};
 use decode::decode;
 use std::alloc::{AllocError, Global};
 
-// Adds the line of the word at an address, and says whether the word reads as an instruction.
-fn add_word(heap: Global, text: &mut String, address: u32, word: u32) -> Result<bool, AllocError>
-    ensures { IfOk result (λ b. Grows address word (string_bytes text.old) (string_bytes text.new) b) }
+// Adds the lines of the words in turn, and says how many of the words read as an instruction.
+fn add_lines(text: &mut String, base: u32, words: &[u32]) -> Result<usize, AllocError>
+    ensures { IfOk result (λ n. Adds base words.now (string_bytes text.old) (string_bytes text.new) n) }
 {
-    let reading = decode(word);
-    let line = word_line(heap, address, word, reading)?;
-    text.push_str(line.as_str())?;
-    Ok(reading.is_ok())
-}
-
-// The lines of the words in turn, then the line of the counts.
-fn list(heap: Global, base: u32, words: &[u32]) -> Result<String, AllocError>
-    ensures { IfOk result (λ s. Lists base words.now (string_bytes s)) }
-{
-    let mut text = String::new(heap);
     let mut address = base;
-    let mut instructions: usize = 0;
+    let mut instructions = 0;
     for word in words {
-        instructions += usize::from(add_word(heap, &mut text, address, *word)?);
+        let reading = decode(*word);
+        let line = WordLine {
+            address,
+            word: *word,
+            reading,
+        };
+        write!(text, "{line}")?;
+        instructions += usize::from(reading.is_ok());
+        // Counted by hand, since the addresses may wrap at 2^32 and those of a range do not.
         address = address.wrapping_add(4);
     }
-    let summary = summary_line(heap, words.len(), instructions)?;
-    text.push_str(summary.as_str())?;
-    Ok(text)
+    Ok(instructions)
 }
 
 /// The listing of words that stand one after another from the address `base`: a line for each, then the line of the counts.
+#[tactic(auto, using(crate::proofs::Appending::lists))]
 pub fn listing(heap: Global, base: u32, words: &[u32]) -> Result<String, AllocError>
     ensures { IfOk result (λ s. Lists base words.now (string_bytes s)) }
 {
-    list(heap, base, words)
+    let mut text = String::new(heap);
+    let instructions = add_lines(&mut text, base, words)?;
+    let summary = SummaryLine {
+        words: words.len(),
+        instructions,
+    };
+    write!(text, "{summary}")?;
+    Ok(text)
 }

@@ -3,7 +3,7 @@ ghost use Rattle.benchfile.specs.Format.{file_of};
 ghost use Rattle.listing.specs.Output.{Answers};
 
 use super::words::image_words;
-use report::{listing, refused_line};
+use report::{RefusedLine, listing};
 use std::alloc::{AllocError, Global};
 
 /// All that the program prints for an input: the listing of a bench file, or the line of its refusal.
@@ -12,11 +12,9 @@ pub fn output(heap: Global, bytes: &[u8]) -> Result<String, AllocError>
 {
     match benchfile::read(bytes) {
         Ok(file) => {
-            // The image as bytes of its own, to lend to the memory.
-            let mut image = file.image.to_vec(heap)?;
-            let words = image_words(heap, file.base, image.as_mut_slice())?;
-            listing(heap, file.base, words.as_slice())
+            let words = image_words(heap, file.base, file.image)?;
+            listing(heap, file.base, &words)
         }
-        Err(refusal) => refused_line(heap, refusal.number()),
+        Err(refusal) => RefusedLine(refusal.number()).to_string(heap),
     }
 }

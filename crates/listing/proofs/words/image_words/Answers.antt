@@ -1,6 +1,12 @@
-use Rattle.stores.specs.Layout.{word_at}
-use Rattle.listing.proofs.PlacedImage.{pushed}
+use Rattle.std.proofs.Common.{List, ℕ, ◌≡◌, ◌+◌, ◌/◌, length, IfOk, subst, arith, rules}
+use Rattle.std.proofs.lemmas.Iterator.{YieldsList-from_range, YieldsList-from_map, items_from_collect}
+use Rattle.listing.proofs.PlacedImage.{held, all_shown}
 use Rattle.listing.proofs.words.image_words.Goals as goal
 
-pub loop-k-preserved : goal.loop-k-preserved
-loop-k-preserved c = pushed (word_at c.new.result.cells.now) c.loop-k.k c.image_word.result _ _ c.in_ok-push.ensures.items c.loop-k.invariant c.image_word.ensures
+pub returns : goal.returns
+returns c =
+    let image = c.args.image.now in
+    let first = c.args.base / 4 in
+    subst (λ (words : List ℕ). IfOk c.collect.result (λ v. v.items ≡ words)) (all_shown first image (omega arith))
+    (items_from_collect _ c.collect.ensures.ran
+    (YieldsList-from_map _ (held first image) (YieldsList-from_range first (first + length image / 4) (length image / 4) (search rules) (omega arith)) c.map.ensures.closure (λ x r q k. search rules)))

@@ -1,27 +1,21 @@
-ghost use Rattle.std.specs.Prelude.{◌≡◌, IfOk, Some, string_bytes};
+ghost use Rattle.std.specs.Prelude.{Some};
 ghost use Rattle.arch1.specs.Datapath.{datapath_of};
-ghost use Rattle.clocks.specs.Lines.{head_of, bit_of, columns_of, transfers_of, clock_of, counts_of, refusal_of, fault_of};
+ghost use Rattle.clocks.specs.Lines.{head_of, columns_of, clock_of, counts_of, fault_of};
 
 use arch1::{Core, CoreFault, Phase};
 use assembly::Hex;
-use std::alloc::{AllocError, Global};
 use std::fmt;
 
 /// The line of the columns' names.
-pub fn head_line(heap: Global) -> Result<String, AllocError>
-    ensures { IfOk result (λ s. string_bytes s ≡ head_of) }
-{
-    String::from_str(
-        heap,
-        "phase pc       tr       ir       dr       ar       flg\n",
-    )
-}
+#[derive(Clone, Copy)]
+pub struct Head;
 
-// A flag as a number.
-fn bit(flag: bool) -> u8
-    ensures { result ≡ bit_of flag }
-{
-    if flag { 1 } else { 0 }
+impl fmt::Display for Head {
+    ghost output = { λ _. Some head_of };
+
+    fn fmt<W: fmt::Write>(&self, f: &mut fmt::Formatter<W>) -> fmt::Result {
+        writeln!(f, "phase pc       tr       ir       dr       ar       flg")
+    }
 }
 
 // PC, TR, IR, DR and AR of a core.
@@ -41,55 +35,56 @@ impl<'a> fmt::Display for Columns<'a> {
     }
 }
 
-// The line of a clock, by the phase's number and FLG as a number.
-fn transfers(heap: Global, phase: u8, core: &Core, flg: u8) -> Result<String, AllocError>
-    ensures { IfOk result (λ s. string_bytes s ≡ transfers_of phase (datapath_of core.now) flg) }
-{
-    let columns = Columns(core);
-    format!(in heap; "T{phase}    {columns} {flg}\n")
-}
-
 /// The line of a clock, by its phase and the core after it.
-pub fn clock_line(heap: Global, phase: Phase, core: &Core) -> Result<String, AllocError>
-    ensures { IfOk result (λ s. string_bytes s ≡ clock_of phase (datapath_of core.now)) }
-{
-    transfers(heap, phase.number(), core, bit(core.flg))
+#[derive(Clone, Copy)]
+pub struct ClockLine<'a> {
+    pub phase: Phase,
+    pub core: &'a Core,
 }
 
-/// The line of the counts: `64 clocks, 20 instructions`.
-pub fn counts_line(heap: Global, clocks: u32, instructions: u32) -> Result<String, AllocError>
-    ensures { IfOk result (λ s. string_bytes s ≡ counts_of clocks instructions) }
-{
-    format!(in heap; "{clocks} clocks, {instructions} instructions\n")
+impl<'a> fmt::Display for ClockLine<'a> {
+    ghost output = { λ l. Some (clock_of l.phase (datapath_of l.core.now)) };
+
+    fn fmt<W: fmt::Write>(&self, f: &mut fmt::Formatter<W>) -> fmt::Result {
+        let phase = self.phase.number();
+        let columns = Columns(self.core);
+        let flg = u8::from(self.core.flg);
+        writeln!(f, "T{phase}    {columns} {flg}")
+    }
 }
 
-// The line of a refused clock, by the numbers of the cause and the phase.
-fn refusal(
-    heap: Global,
-    cause: u8,
-    phase: u8,
-    address: u32,
-    clocks: u32,
-    instructions: u32,
-) -> Result<String, AllocError>
-    ensures { IfOk result (λ s. string_bytes s ≡ refusal_of cause phase address clocks instructions) }
-{
-    let place = Hex(address);
-    format!(in heap;
-        "refused {cause} in T{phase} at {place} after {clocks} clocks, {instructions} instructions\n"
-    )
+/// How many clocks were made and how many instructions retired, as a line or the end of one: `64 clocks, 20 instructions`.
+#[derive(Clone, Copy)]
+pub struct Counts {
+    pub clocks: u32,
+    pub instructions: u32,
 }
 
-/// The line of a refused clock, after so many clocks and instructions: `refused 2 in T0 at 00000014 after 14 clocks, 4 instructions`.
-pub fn fault_line(
-    heap: Global,
-    fault: CoreFault,
-    clocks: u32,
-    instructions: u32,
-) -> Result<String, AllocError>
-    ensures { IfOk result (λ s. string_bytes s ≡ fault_of fault clocks instructions) }
-{
-    let cause = fault.cause.number();
-    let phase = fault.phase.number();
-    refusal(heap, cause, phase, fault.address, clocks, instructions)
+impl fmt::Display for Counts {
+    ghost output = { λ c. Some (counts_of c.clocks c.instructions) };
+
+    fn fmt<W: fmt::Write>(&self, f: &mut fmt::Formatter<W>) -> fmt::Result {
+        let clocks = self.clocks;
+        let instructions = self.instructions;
+        writeln!(f, "{clocks} clocks, {instructions} instructions")
+    }
+}
+
+/// The line of a refused clock, and what was done before it: `refused 2 in T0 at 00000014 after 14 clocks, 4 instructions`.
+#[derive(Clone, Copy)]
+pub struct FaultLine {
+    pub fault: CoreFault,
+    pub done: Counts,
+}
+
+impl fmt::Display for FaultLine {
+    ghost output = { λ l. Some (fault_of l.fault l.done.clocks l.done.instructions) };
+
+    fn fmt<W: fmt::Write>(&self, f: &mut fmt::Formatter<W>) -> fmt::Result {
+        let cause = self.fault.cause.number();
+        let phase = self.fault.phase.number();
+        let place = Hex(self.fault.address);
+        let done = self.done;
+        write!(f, "refused {cause} in T{phase} at {place} after {done}")
+    }
 }

@@ -16,6 +16,6 @@ fn main(rt: HostRuntime) -> io::Result<()> {
     rt.stdin()
         .take(enough_bytes() as u64)
         .read_to_end(&mut bytes)?;
-    let text = output(rt.alloc(), bytes.as_slice())?;
+    let text = output(rt.alloc(), &bytes)?;
     rt.stdout().write_all(text.as_bytes())
 }

@@ -5,29 +5,26 @@ ghost use Rattle.clocks.specs.Shown.{shown};
 
 use super::show::show;
 use arch1::Core;
+use benchfile::BenchFile;
 use layers::Placed;
 use memory::ReadMemory;
 use registers::RegisterFile;
-use report::refused_line;
+use report::RefusedLine;
 use std::alloc::{AllocError, Global};
 use stores::ByteImage;
 
-// The clocks of an image that is placed at its base, from a start PC on, with all registers zero.
-fn run(
-    heap: Global,
-    start: u32,
-    base: u32,
-    limit: u32,
-    image: &mut [u8],
-) -> Result<String, AllocError>
-    ensures { IfOk result (λ s. string_bytes s ≡ shown (kinds_at base image.old) 64 limit (start_at start base image.old)) }
+// The first 64 clocks of a bench file: its image is placed at its base, and all registers are zero.
+fn run(heap: Global, file: BenchFile<'_>) -> Result<String, AllocError>
+    ensures { IfOk result (λ s. string_bytes s ≡ shown (kinds_at file.entry.base file.entry.image.now) 64 file.entry.limit (start_at file.entry.start file.entry.base file.entry.image.now)) }
 {
+    // The image as bytes of its own, which the clocks may write.
+    let mut image = file.image.to_vec(heap)?;
     let mut memory = Placed {
-        base: base / 4,
-        below: ByteImage::new(image),
+        base: file.base / 4,
+        below: ByteImage::new(image.as_mut_slice()),
     };
-    let mut core = Core::new(RegisterFile::new([0; 32]), start);
-    show(heap, &mut core, &mut memory, limit)
+    let mut core = Core::new(RegisterFile::new([0; 32]), file.start);
+    show(heap, &mut core, &mut memory, 64, file.limit)
 }
 
 /// All that the program prints for an input: the first 64 clocks of a bench file, or the line of its refusal.
@@ -35,17 +32,7 @@ pub fn output(heap: Global, bytes: &[u8]) -> Result<String, AllocError>
     ensures { IfOk result (λ s. string_bytes s ≡ printed (file_of bytes.now)) }
 {
     match benchfile::read(bytes) {
-        Ok(file) => {
-            // The image as bytes of its own, to lend to the memory.
-            let mut image = file.image.to_vec(heap)?;
-            run(
-                heap,
-                file.start,
-                file.base,
-                file.limit,
-                image.as_mut_slice(),
-            )
-        }
-        Err(refusal) => refused_line(heap, refusal.number()),
+        Ok(file) => run(heap, file),
+        Err(refusal) => RefusedLine(refusal.number()).to_string(heap),
     }
 }

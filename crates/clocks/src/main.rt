@@ -6,16 +6,13 @@ mod lines;
 mod output;
 mod show;
 
-use benchfile::enough_bytes;
+use benchfile::read_input;
 use output::output;
 use std::io;
-use std::io::{Read, Write};
+use std::io::Write;
 
 fn main(rt: HostRuntime) -> io::Result<()> {
-    let mut bytes = Vec::new(rt.alloc());
-    rt.stdin()
-        .take(enough_bytes() as u64)
-        .read_to_end(&mut bytes)?;
+    let bytes = read_input(rt.alloc(), rt.stdin())?;
     let text = output(rt.alloc(), &bytes)?;
     rt.stdout().write_all(text.as_bytes())
 }

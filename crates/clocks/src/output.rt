@@ -1,7 +1,7 @@
-ghost use Rattle.std.specs.Prelude.{◌≡◌, IfOk, string_bytes};
+ghost use Rattle.std.specs.Prelude.{◌≡◌, IfOk, Ok, string_bytes};
 ghost use Rattle.benchfile.specs.Format.{file_of};
-ghost use Rattle.clocks.specs.Output.{kinds_at, start_at, printed};
-ghost use Rattle.clocks.specs.Shown.{shown};
+ghost use Rattle.benchfile.specs.Views.{file_read};
+ghost use Rattle.clocks.specs.Output.{printed};
 
 use super::show::show;
 use arch1::Core;
@@ -15,7 +15,7 @@ use stores::ByteImage;
 
 // The first 64 clocks of a bench file: its image is placed at its base, and all registers are zero.
 fn run(heap: Global, file: BenchFile<'_>) -> Result<String, AllocError>
-    ensures { IfOk result (λ s. string_bytes s ≡ shown (kinds_at file.entry.base file.entry.image.now) 64 file.entry.limit (start_at file.entry.start file.entry.base file.entry.image.now)) }
+    ensures { IfOk result (λ s. string_bytes s ≡ printed (file_read (Ok file.entry))) }
 {
     // The image as bytes of its own, which the clocks may write.
     let mut image = file.image.to_vec(heap)?;
@@ -31,6 +31,7 @@ fn run(heap: Global, file: BenchFile<'_>) -> Result<String, AllocError>
 pub fn output(heap: Global, bytes: &[u8]) -> Result<String, AllocError>
     ensures { IfOk result (λ s. string_bytes s ≡ printed (file_of bytes.now)) }
 {
+    // Each program has these two cases: a function for both would take the first as a closure, and so ask something of its caller.
     match benchfile::read(bytes) {
         Ok(file) => run(heap, file),
         Err(refusal) => RefusedLine(refusal.number()).to_string(heap),

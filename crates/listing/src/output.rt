@@ -10,6 +10,7 @@ use std::alloc::{AllocError, Global};
 pub fn output(heap: Global, bytes: &[u8]) -> Result<String, AllocError>
     ensures { IfOk result (λ s. Answers (file_of bytes.now) (string_bytes s)) }
 {
+    // Each program has these two cases: a function for both would take the first as a closure, and so ask something of its caller.
     match benchfile::read(bytes) {
         Ok(file) => {
             let words = image_words(heap, file.base, file.image)?;

@@ -2,17 +2,17 @@ ghost use Rattle.std.specs.Prelude.{◌≡◌};
 ghost use Rattle.benchfile.specs.Refusals.{number_of};
 
 /// Why bytes are refused as a bench file.
-#[derive(Clone, Copy)]
+#[derive(Clone, Copy, PartialEq, Eq, Debug)]
 pub enum Refusal {
     /// There are under 24 bytes, or they do not begin with `RVB`.
-    NotBenchFile,
+    NotBenchFile = 11,
     /// The version is not 1.
-    Version,
+    Version = 12,
     /// A reserved byte is not zero, or the base address and the image length are not whole words,
     /// do not fit the image that follows, or pass the end of the address space.
-    Header,
+    Header = 13,
     /// The instruction limit is above 1,000,000.
-    Limit,
+    Limit = 7,
 }
 
 impl Refusal {
@@ -20,11 +20,6 @@ impl Refusal {
     pub fn number(self) -> u8
         ensures { result ≡ number_of self }
     {
-        match self {
-            Refusal::NotBenchFile => 11,
-            Refusal::Version => 12,
-            Refusal::Header => 13,
-            Refusal::Limit => 7,
-        }
+        self as u8
     }
 }

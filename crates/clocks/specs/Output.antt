@@ -15,7 +15,7 @@ use Rattle.clocks.specs.Shown.{shown}
 
 -- all registers are zero
 abbrev pub cleared : RegisterFile
-cleared = record { numbers = replicate 32 0 }
+cleared = replicate 32 0
 
 -- the kinds and the words of a memory with this image at its base address
 abbrev pub kinds_at : ℕ → List ℕ → ℕ → Kind

@@ -1,5 +1,4 @@
 ghost use Rattle.std.specs.Prelude.{Some};
-ghost use Rattle.arch1.specs.Datapath.{datapath_of};
 ghost use Rattle.clocks.specs.Lines.{head_of, columns_of, clock_of, counts_of, fault_of};
 
 use arch1::{Core, CoreFault, Phase};
@@ -23,14 +22,15 @@ impl fmt::Display for Head {
 struct Columns<'a>(&'a Core);
 
 impl<'a> fmt::Display for Columns<'a> {
-    ghost output = { λ c. Some (columns_of (datapath_of c.0.now)) };
+    ghost output = { λ c. Some (columns_of c.0.now) };
 
     fn fmt<W: fmt::Write>(&self, f: &mut fmt::Formatter<W>) -> fmt::Result {
-        let pc = Hex(self.0.pc);
-        let tr = Hex(self.0.tr);
-        let ir = Hex(self.0.ir);
-        let dr = Hex(self.0.dr);
-        let ar = Hex(self.0.ar);
+        let core = self.0;
+        let pc = Hex(core.pc);
+        let tr = Hex(core.tr);
+        let ir = Hex(core.ir);
+        let dr = Hex(core.dr);
+        let ar = Hex(core.ar);
         write!(f, "{pc} {tr} {ir} {dr} {ar}")
     }
 }
@@ -43,12 +43,13 @@ pub struct ClockLine<'a> {
 }
 
 impl<'a> fmt::Display for ClockLine<'a> {
-    ghost output = { λ l. Some (clock_of l.phase (datapath_of l.core.now)) };
+    ghost output = { λ l. Some (clock_of l.phase l.core.now) };
 
     fn fmt<W: fmt::Write>(&self, f: &mut fmt::Formatter<W>) -> fmt::Result {
+        let core = self.core;
         let phase = self.phase.number();
-        let columns = Columns(self.core);
-        let flg = u8::from(self.core.flg);
+        let columns = Columns(core);
+        let flg = u8::from(core.flg);
         writeln!(f, "T{phase}    {columns} {flg}")
     }
 }

@@ -1,5 +1,4 @@
 ghost use Rattle.std.specs.Prelude.{◌≡◌, IfOk, string_bytes};
-ghost use Rattle.arch1.specs.Datapath.{datapath_of};
 ghost use Rattle.arch1.specs.Refinement.{rig};
 ghost use Rattle.clocks.specs.Shown.{shown};
 
@@ -17,7 +16,7 @@ pub fn show<M: WriteMemory>(
     most: u32,
     limit: u32,
 ) -> Result<String, AllocError>
-    ensures { IfOk result (λ s. string_bytes s ≡ shown (M.ReadMemory.kinds memory.old) most limit (rig (datapath_of core.old) (M.ReadMemory.words memory.old))) }
+    ensures { IfOk result (λ s. string_bytes s ≡ shown (M.ReadMemory.kinds memory.old) most limit (rig core.old (M.ReadMemory.words memory.old))) }
 {
     let mut text = String::new(heap);
     write!(text, "{Head}")?;

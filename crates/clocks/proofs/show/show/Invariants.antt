@@ -1,5 +1,4 @@
 use Rattle.std.proofs.Common.{◌≡◌, ◌-◌, ◌≤◌, ◌++◌, string_bytes}
-use Rattle.arch1.specs.Datapath.{datapath_of}
 use Rattle.arch1.specs.Refinement.{rig}
 use Rattle.clocks.specs.Shown.{shown, shown_from}
 use Rattle.clocks.proofs.show.show.Given as goal
@@ -8,7 +7,7 @@ use Rattle.clocks.proofs.show.show.Given as goal
 abbrev pub invariant-loop-clocks : goal.invariant-loop-clocks
 invariant-loop-clocks g l = let m = g.M.ReadMemory in record {
   few : l.instructions ≤ l.clocks;
-  so_far : string_bytes l.text ++ shown_from (m.kinds l.initial.memory) (l.most - l.clocks) l.limit l.clocks l.instructions (rig (datapath_of l.core) (m.words l.memory))
-      ≡ shown (m.kinds l.initial.memory) l.most l.limit (rig (datapath_of l.initial.core) (m.words l.initial.memory));
+  so_far : string_bytes l.text ++ shown_from (m.kinds l.initial.memory) (l.most - l.clocks) l.limit l.clocks l.instructions (rig l.core (m.words l.memory))
+      ≡ shown (m.kinds l.initial.memory) l.most l.limit (rig l.initial.core (m.words l.initial.memory));
   kinds : m.kinds l.memory ≡ m.kinds l.initial.memory;
 }

@@ -22,6 +22,7 @@ fn signed(x: u32, width: u32) -> i64
     i64::from(sign_extend(x, width).cast_signed())
 }
 
+// A function for each format: they differ in which operands they have and in where these stand.
 pub(super) fn r_type(mnemonic: Mnemonic, word: u32) -> Instruction
     ensures { result ≡ in_format Register mnemonic word }
 {

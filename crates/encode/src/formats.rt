@@ -6,6 +6,7 @@ use super::words::{assemble, assemble_upper};
 use bits::field;
 use isa::{Instruction, Refusal, Row};
 
+// A function for each format: they differ in which operands they have and in where these stand.
 pub(super) fn r_type(row: Row, i: &Instruction) -> Result<u32, Refusal>
     ensures only { Only Register row i.now result }
     ensures written { Written Register row i.now result }
@@ -61,6 +62,7 @@ pub(super) fn s_type(row: Row, i: &Instruction) -> Result<u32, Refusal>
     Ok(assemble(row, rd, i.rs1, u32::from(i.rs2), funct7))
 }
 
+// Not one function with S: width, evenness and slots differ, and only the check of the registers is shared.
 pub(super) fn b_type(row: Row, i: &Instruction) -> Result<u32, Refusal>
     ensures only { Only Branch row i.now result }
     ensures written { Written Branch row i.now result }

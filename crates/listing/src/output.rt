@@ -13,7 +13,7 @@ pub fn output(heap: Global, bytes: &[u8]) -> Result<String, AllocError>
     // Each program has these two cases: a function for both would take the first as a closure, and so ask something of its caller.
     match benchfile::read(bytes) {
         Ok(file) => {
-            let words = image_words(heap, file.base, file.image)?;
+            let words = image_words(heap, file)?;
             listing(heap, file.base, &words)
         }
         Err(refusal) => RefusedLine(refusal.number()).to_string(heap),

@@ -15,7 +15,3 @@ eight_digits n =
 -- n without leading zeros: its digits in base 16, the highest first, of which 0 has none but is still written
 unfoldable pub hexadecimal : ℕ → List ℕ
 hexadecimal n = cond (n == 0) (glyph 0 ∷ []) (map glyph (digits_of 16 n))
-
--- the lowest digit of n, unless n is 0: then it would be a leading zero
-abbrev pub leading : ℕ → List ℕ
-leading n = cond (n == 0) [] (glyph (n % 16) ∷ [])

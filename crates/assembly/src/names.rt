@@ -4,6 +4,7 @@ ghost use Rattle.assembly.specs.Names.{name_of};
 use isa::Mnemonic;
 
 /// The mnemonic's name, as assemblers write it.
+// A text and no `Display`: the type is another crate's, and a type around it would have the same arms.
 pub(super) fn name(mnemonic: Mnemonic) -> &'static str
     ensures { result.now ≡ name_of mnemonic }
 {

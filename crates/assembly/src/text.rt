@@ -1,7 +1,6 @@
 ghost use Rattle.std.specs.Prelude.{Some};
 ghost use Rattle.assembly.specs.Assembly.{text_of};
 
-use super::hex::TwentyBits;
 use super::names::name;
 use isa::{Class, Instruction};
 use std::fmt;
@@ -13,6 +12,7 @@ pub struct Assembly(pub Instruction);
 impl fmt::Display for Assembly {
     ghost output = { λ a. Some (text_of a.0) };
 
+    #[tactic(auto, using(crate::proofs::Digits::hexadecimal_is))]
     fn fmt<W: fmt::Write>(&self, f: &mut fmt::Formatter<W>) -> fmt::Result {
         let Instruction {
             mnemonic,
@@ -30,8 +30,8 @@ impl fmt::Display for Assembly {
             Class::Br => write!(f, "{name} x{rs1}, x{rs2}, {immediate}"),
             Class::Jal => write!(f, "{name} x{rd}, {immediate}"),
             Class::Lui | Class::Auipc => {
-                let upper = TwentyBits(immediate.unsigned_abs() / 4096);
-                write!(f, "{name} x{rd}, 0x{upper}")
+                let upper = immediate.unsigned_abs() / 4096 % 0x10_0000;
+                write!(f, "{name} x{rd}, 0x{upper:x}")
             }
         }
     }

@@ -68,7 +68,7 @@ impl<'a, T: Cell> WriteMemory for Store<'a, T> {
     ghost rest = { λ s. lent_cells T.spare s.cells.ghost_name s.cells.now };
 
     // The interface's clauses, and at the end what the cells are as a list.
-    #[tactic(auto, using(crate::proofs::Cells::write_after))]
+    #[tactic(auto, using(crate::proofs::Cells::written_cells))]
     fn write(&mut self, k: u32, value: u32, mask: u8) -> Result<(), MemoryFault>
         ensures answer { result ≡ write_of k mask (kind_in_cells T.holds Open self.old.cells.now k) }
         ensures kept { kind_in_cells T.holds Open self.new.cells.now ≡ kind_in_cells T.holds Open self.old.cells.now }

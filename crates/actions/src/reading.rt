@@ -57,6 +57,7 @@ fn by_mnemonic(instruction: Instruction) -> Action
         rs2,
         immediate,
     };
+    // A line for each mnemonic, as in the definition.
     match mnemonic {
         Mnemonic::Add => comp(Operation::Add),
         Mnemonic::Sub => comp(Operation::Sub),

@@ -14,6 +14,7 @@ pub enum Phase {
 
 impl Phase {
     /// The number of the phase, 0 to 3: as many clocks the open instruction has had.
+    // A method, and no `From` for a number: a caller shall read that it is the number of the phase.
     pub fn number(self) -> u8
         ensures { result ≡ phase_number self }
     {
@@ -22,6 +23,7 @@ impl Phase {
 }
 
 /// What a clock answers: the next phase, and whether an instruction retired.
+// Both, as a tick answers both, though T0 follows exactly where an instruction retired.
 #[derive(Clone, Copy, PartialEq, Eq, Debug)]
 pub struct Ticked {
     pub next: Phase,

@@ -11,7 +11,7 @@ use alu::{Load, Store, compare, loaded, operate, store_lanes};
 use machine::Cause;
 use processor::{Access, Reply};
 
-// How many bytes a load is about.
+// How many bytes a load is about. Two functions, as loads and stores are two enums with a definition each.
 fn load_size(load: Load) -> u32
     ensures { result ≡ load_size load }
 {

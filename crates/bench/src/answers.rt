@@ -38,6 +38,7 @@ pub enum Stop {
 
 impl Stop {
     /// The refusal's number: 7, or that of the step's cause.
+    // A match, since a case holds a fault that has a number of its own.
     pub fn number(self) -> u8
         ensures { result ≡ stop_number self }
     {
@@ -83,6 +84,7 @@ pub enum BackFault {
 
 impl BackFault {
     /// The refusal's number, 6.
+    // A method, and no `From` for a number: a caller shall read that it is the number of the refusal.
     pub fn number(self) -> u8
         ensures { result ≡ back_number self }
     {

@@ -41,6 +41,7 @@ impl<M: WriteMemory> Bench<M> {
 
     /// Drops an open instruction as a refused tick does, and answers 0. Else takes back the newest instruction of the journal, with registers, bytes, PC and counters
     /// as before it, clears TR, IR, DR, AR and FLG, and answers 1. Refuses 6 if none is open and the journal is empty, changing nothing.
+    // The answer is a number, as the call's rule says: by how many fewer instructions stand.
     #[tactic(auto, using(crate::proofs::Keeps::back_kept))]
     pub fn back(&mut self) -> Result<u32, BackFault>
         ensures answer { result ≡ back_answer (state_of M.ReadMemory self.old) }

@@ -42,6 +42,7 @@ pub enum LookFault {
 
 impl LookFault {
     /// The refusal's number: 8, or that of the memory's refusal, 2.
+    // A match, since a case holds a fault that has a number of its own.
     pub fn number(self) -> u8
         ensures { result ≡ look_number self }
     {

@@ -23,6 +23,7 @@ impl<M: WriteMemory> Bench<M> {
             clocks: open + 1,
             overwritten: overwritten(&self.core, &self.memory),
         };
+        // A match, since either answer moves a counter.
         match self.core.tick(&mut self.memory) {
             Ok(ticked) => {
                 self.clocks = self.clocks.wrapping_add(1);

@@ -71,6 +71,7 @@ fn take_apart<'a>(bytes: &'a [u8]) -> Result<Fields<'a>, Refusal>
 }
 
 /// The file that the fields make; refused at the first check that fails.
+// That it is whole words is a clause and no fact of the type: who makes a `BenchFile` by hand need not show it.
 fn judge<'a>(fields: Fields<'a>) -> Result<BenchFile<'a>, Refusal>
     ensures value { file_read result ≡ checked (fields_in fields.entry) }
     ensures whole { WholeWords (file_read result) }

@@ -17,6 +17,7 @@ pub enum Refusal {
 
 impl Refusal {
     /// The number that stands for the refusal: 11, 12, 13 or 7, in the order above.
+    // A method, and no `From` for a number: a caller shall read that it is the number of the refusal.
     pub fn number(self) -> u8
         ensures { result ≡ number_of self }
     {

@@ -12,6 +12,7 @@ ghost use Rattle.bits.specs.Sign.{extended};
 pub fn field(word: u32, lo: u32, width: u32) -> u32
     ensures { result ≡ field lo width word }
 {
+    // Ones below `width`; of 32 or more there are 32 of them.
     let ones = 1u32.checked_shl(width).unwrap_or(0).wrapping_sub(1);
     word.checked_shr(lo).unwrap_or(0) & ones
 }

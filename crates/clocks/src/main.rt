@@ -11,6 +11,7 @@ use output::output;
 use std::io;
 use std::io::Write;
 
+// The other program has the same lines: what they have in common beside its `output` is `read_input`.
 fn main(rt: HostRuntime) -> io::Result<()> {
     let bytes = read_input(rt.alloc(), rt.stdin())?;
     let text = output(rt.alloc(), &bytes)?;

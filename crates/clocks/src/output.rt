@@ -7,7 +7,6 @@ use super::show::show;
 use arch1::Core;
 use benchfile::BenchFile;
 use layers::Placed;
-use memory::ReadMemory;
 use registers::RegisterFile;
 use report::RefusedLine;
 use std::alloc::{AllocError, Global};

@@ -7,7 +7,10 @@ ghost use Rattle.decode.specs.Classes.{Names, OnlyMnemonic};
 ghost use Rattle.isa.specs.declared.mnemonic.Format.TheVariants.{Register, Immediate, Store, Branch};
 
 use super::formats::{i_type, shift_type};
+use bits::field;
 use isa::{Instruction, Mnemonic, Refusal};
+
+// A function for each class, as the decoder has a case for each: they are the lines of the manual's table.
 
 // The mnemonic of the class COMP with these codes.
 pub(super) fn comp(funct3: u32, funct7: u32) -> Result<Mnemonic, Refusal>
@@ -29,13 +32,14 @@ pub(super) fn comp(funct3: u32, funct7: u32) -> Result<Mnemonic, Refusal>
     }
 }
 
-// The instruction of the class COMPI that `word` reads as; `funct3` and `funct7` are its fields.
-pub(super) fn comp_immediate(word: u32, funct3: u32, funct7: u32) -> Result<Instruction, Refusal>
-    requires { (field 0 7 word ≡ 0b0010011) × ((field 12 3 word ≡ funct3) × (field 25 7 word ≡ funct7)) }
+// The instruction of the class COMPI that `word` reads as.
+pub(super) fn comp_immediate(word: u32) -> Result<Instruction, Refusal>
+    requires { field 0 7 word ≡ 0b0010011 }
     ensures only { (i : Instruction) → Reads word i → result ≡ Ok i }
     ensures reads { MatchResult result (λ i. Reads word i) (λ e. number_of e ≡ 3) }
 {
-    match funct3 {
+    let funct7 = field(word, 25, 7);
+    match field(word, 12, 3) {
         0b000 => Ok(i_type(Mnemonic::Addi, word)),
         0b001 if funct7 == 0b0000000 => Ok(shift_type(Mnemonic::Slli, word)),
         0b010 => Ok(i_type(Mnemonic::Slti, word)),

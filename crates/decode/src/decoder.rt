@@ -15,7 +15,7 @@ pub fn decode(word: u32) -> Result<Instruction, Refusal>
     let funct7 = field(word, 25, 7);
     match (field(word, 0, 7), field(word, 12, 3)) {
         (0b0110011, funct3) => Ok(r_type(comp(funct3, funct7)?, word)),
-        (0b0010011, funct3) => comp_immediate(word, funct3, funct7),
+        (0b0010011, _) => comp_immediate(word),
         (0b0110111, _) => Ok(u_type(Mnemonic::Lui, word)),
         (0b0010111, _) => Ok(u_type(Mnemonic::Auipc, word)),
         (0b0000011, funct3) => Ok(i_type(load(funct3)?, word)),

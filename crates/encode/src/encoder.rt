@@ -12,6 +12,7 @@ pub fn encode(i: &Instruction) -> Result<u32, Refusal>
     ensures writes { MatchResult result (λ w. (w < 2 ^ 32) × Reads w i.now × Fits i.now) (λ e. (number_of e ≡ 10) × (Fits i.now → ⊥)) }
 {
     let row = i.mnemonic.row();
+    // By a match: a table of functions would hide which format takes which.
     match row.format {
         Format::Register => r_type(row, i),
         Format::Immediate => i_type(row, i),

@@ -10,6 +10,7 @@ use bits::field;
 use isa::Refusal;
 
 // The `width` bits that stand for `z` in two's complement. Refuses 10 if it has not that many.
+// The width is a number and no const parameter: the definitions take it as a number too.
 pub(super) fn cut(z: i64, width: u32) -> Result<u32, Refusal>
     requires { (0 < width) × (width < 32) }
     ensures { MatchResult result (λ x. (x < 2 ^ width) × (signed_of width x ≡ z) × Within width z) (λ e. (number_of e ≡ 10) × (Within width z → ⊥)) }
@@ -32,7 +33,7 @@ pub(super) fn offset(z: i64, width: u32) -> Result<u32, Refusal>
     cut(z, width)
 }
 
-// The fields rd and funct7 of a store whose offset has the bits `x`.
+// The fields rd and funct7 of a store whose offset has the bits `x`. A function for each format: the bits stand in other places.
 pub(super) fn store_slots(x: u32) -> (u32, u32)
     requires { x < 2 ^ 12 }
     ensures bounds { (result.0 < 32) × (result.1 < 2 ^ 7) }

@@ -12,6 +12,7 @@ pub enum Refusal {
 
 impl Refusal {
     /// The refusal's number: 3 or 10.
+    // A method, and no `From` for a number: a caller shall read that it is the number of the refusal.
     pub fn number(self) -> u8
         ensures { result ≡ number_of self }
     {

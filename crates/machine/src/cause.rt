@@ -19,6 +19,7 @@ pub enum Cause {
 
 impl Cause {
     /// The refusal's number: 1, 3 or 4, or that of the memory's refusal.
+    // A match, since a case holds a fault that has a number of its own.
     pub fn number(self) -> u8
         ensures { result ≡ number_of self }
     {

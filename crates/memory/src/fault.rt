@@ -15,6 +15,7 @@ pub enum Cause {
 
 impl Cause {
     /// The refusal's number: 2, 5 or 9.
+    // A method, and no `From` for a number: a caller shall read that it is the number of the refusal.
     pub fn number(self) -> u8
         ensures { result ≡ number_of self }
     {

@@ -35,6 +35,7 @@ pub trait WriteMemory: ReadMemory {
 
     /// Sets the lanes of word `k` that `mask` names to those of `value`; bit i of the mask stands for lane i.
     /// Refuses 9 if the mask is above 15, then 2 if the word is absent, then 5 if it is fixed. A refused write changes nothing.
+    // Word, value and mask are three parameters, as the clauses name them one by one; a struct would be made and taken apart at each call.
     fn write(&mut self, k: u32, value: u32, mask: u8) -> Result<(), MemoryFault>
         ensures answer { result ≡ write_of k mask (Self.ReadMemory.kinds self.old k) }
         ensures kept { Self.ReadMemory.kinds self.new ≡ Self.ReadMemory.kinds self.old }

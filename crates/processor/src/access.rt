@@ -3,8 +3,8 @@ ghost use Rattle.processor.specs.Accesses.{suits, word_in, written_in};
 
 use memory::MemoryFault;
 
-// `Nothing` is a case, and not an Option around the others: `suits`, `word` and `written` are methods of a reply, and the core's
-// table takes any reply by them; of an Option they could not be.
+// `Nothing` is a case of both, and no Option around the others: `suits`, `word` and `written` are methods of a reply, and the
+// core's table takes any reply by them, which of an Option they could not be; and an access is matched together with its reply.
 
 /// What a core asks of the memory in one clock: nothing, one read or one write.
 #[derive(Clone, Copy, PartialEq, Eq, Debug)]

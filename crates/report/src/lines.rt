@@ -47,6 +47,7 @@ impl fmt::Display for SummaryLine {
 }
 
 /// The line of a refusal by its number: `file 11`.
+// Of any number: a line of one enum would ask more of who prints one.
 #[derive(Clone, Copy)]
 pub struct RefusedLine(pub u8);
 

@@ -9,7 +9,7 @@ use bench::Bench;
 use memory::WriteMemory;
 use registers::RegisterFile;
 
-// Makes one call.
+// Makes one call. By a match: each case has an answer of its own type.
 fn make<M: WriteMemory>(bench: &mut Bench<M>, call: Call) -> Answer
     ensures answer { result ≡ answered call (state_of M.ReadMemory bench.old) }
     ensures state { state_of M.ReadMemory bench.new ≡ called call (state_of M.ReadMemory bench.old) }
@@ -24,6 +24,7 @@ fn make<M: WriteMemory>(bench: &mut Bench<M>, call: Call) -> Answer
     }
 }
 
+// That the rest of the memory stays is a clause here and at each call of a bench: it speaks of a member that only a memory to be written has.
 // Makes calls one after another, as many as there are places for their answers. The caller lends the places: there is no heap here.
 fn make_all<M: WriteMemory>(bench: &mut Bench<M>, calls: &[Call], places: &mut [Answer]) -> usize
     ensures count { result ≡ min (length calls.now) (length places.old) }

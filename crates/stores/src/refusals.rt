@@ -10,8 +10,10 @@ use memory::{Cause, Kind, MemoryFault};
 pub(super) fn admit(kind: Kind, k: u32, mask: u8) -> Result<(), MemoryFault>
     ensures { result ≡ write_of k mask kind }
 {
+    if mask > 15 {
+        return Err(Cause::BadMask.at(k));
+    }
     match kind {
-        _ if mask > 15 => Err(Cause::BadMask.at(k)),
         Kind::Absent => Err(Cause::NoWord.at(k)),
         Kind::Fixed => Err(Cause::FixedWord.at(k)),
         Kind::Open => Ok(()),

@@ -87,6 +87,7 @@ impl Core {
 
     /// One clock over a memory: the next phase, and whether an instruction retired. It is refused as `clock` says, and the memory then stays as it is.
     /// Whatever instruction the core is in, the clock keeps it with RV32I by whole instructions.
+    #[tactic(auto, using(crate::proofs::Clocks::clock_keeps))]
     pub fn tick<M: WriteMemory>(&mut self, memory: &mut M) -> Result<Ticked, CoreFault>
         ensures answer { result ≡ tick_answer (M.ReadMemory.kinds memory.old) (M.ReadMemory.words memory.old) self.old }
         ensures core { self.new ≡ ticked_core (M.ReadMemory.kinds memory.old) (M.ReadMemory.words memory.old) self.old }

@@ -1,6 +1,6 @@
 use Rattle.std.proofs.Common.{◌≡◌, ◌-◌}
 use Rattle.arch1.specs.Refinement.{rig, answer_for, rig_for}
-use Rattle.arch1.proofs.datapath.Core.instruction.Given as goal
+use Rattle.arch1.proofs.datapath.Core.clocks.Given as goal
 
 -- what is left of four clocks comes to what four came to from the start
 abbrev pub invariant-loop-done : goal.invariant-loop-done

@@ -3,7 +3,7 @@ use Rattle.std.proofs.lemmas.Result.{err_from_is_err_and}
 use Rattle.arch1.proofs.Instructions.{next_clock, last_clock, refused_clock, no_clock, instruction_refines}
 use Rattle.arch1.specs.Refinement.{rig}
 use Rattle.arch1.specs.declared.phase.CoreFault.{CoreFault}
-use Rattle.arch1.proofs.datapath.Core.instruction.Goals as goal
+use Rattle.arch1.proofs.datapath.Core.clocks.Goals as goal
 
 pub returns-in_err-tick : goal.returns-in_err-tick
 returns-in_err-tick g c =

@@ -25,12 +25,9 @@ impl Journal {
         ensures value { result ≡ popped self.old }
         ensures exact { self.new ≡ remaining self.old }
     {
-        if self.held == 0 {
-            return None;
-        }
+        self.held = self.held.checked_sub(1)?;
         // Its place keeps the entry until it is written again.
         self.next = (self.next + 255) % 256;
-        self.held -= 1;
         Some(self.entries[self.next])
     }
 }

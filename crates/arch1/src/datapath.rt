@@ -7,7 +7,7 @@ use registers::RegisterFile;
 use std::marker::Model;
 
 /// The core: the registers of the datapath.
-#[derive(Clone, Copy)]
+#[derive(Clone, Copy, PartialEq, Eq, Debug)]
 pub struct Core {
     pub registers: RegisterFile,
     /// The address of the next instruction, and from T1 on that of the open instruction plus four.

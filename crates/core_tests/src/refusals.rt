@@ -1,9 +1,9 @@
-use super::seen::{cleared, core_at, on, refused, retired, state};
+use super::seen::{cleared, core_at, refused, state, ticked};
 use anyhow::{Result, ensure};
 use arch1::Phase;
 use layers::Shield;
 use machine::Cause;
-use memory::{MemoryFault, WriteMemory};
+use memory::WriteMemory;
 use stores::{ReadOnlyImage, WordBank};
 
 /// beq x0, x0, 4: taken, to the next word. It sets FLG.
@@ -11,22 +11,6 @@ const BRANCH: u32 = 0x0000_0263;
 
 /// lw x3, 0(x0): it puts the first word into DR and x3, and it sets AR.
 const LOAD: u32 = 0x0000_2183;
-
-/// The memory has no word of this number.
-fn absent(word: u32) -> Cause {
-    Cause::Memory(MemoryFault {
-        cause: memory::Cause::NoWord,
-        word,
-    })
-}
-
-/// The word of this number is fixed.
-fn fixed(word: u32) -> Cause {
-    Cause::Memory(MemoryFault {
-        cause: memory::Cause::FixedWord,
-        word,
-    })
-}
 
 /// A memory with the branch, the load, and at 8 something that is refused after `open` of its clocks with this cause and phase.
 /// The refusal keeps the registers and clears the rest. It comes again from there, and not where the core is set to 0.
@@ -51,7 +35,7 @@ fn refused_at_8<M: WriteMemory>(
     }
     let registers = core.registers;
     core.set(registers, 0);
-    ensure!(core.tick(memory) == on(Phase::T1));
+    ensure!(core.tick(memory) == ticked(Phase::T1));
     ensure!(state(&core) == ([4, 0, 0, BRANCH, 0], false, Phase::T1));
     Ok(())
 }
@@ -79,7 +63,7 @@ fn unaligned_pc(rt: HostRuntime) {
         assert_eq!(rt; state(&core), cleared(pc));
         let registers = core.registers;
         core.set(registers, 0);
-        assert_eq!(rt; core.tick(&mut memory), on(Phase::T1));
+        assert_eq!(rt; core.tick(&mut memory), ticked(Phase::T1));
     }
 }
 
@@ -89,9 +73,9 @@ fn jump_to_an_unaligned_pc(rt: HostRuntime) {
     let mut words = [0x0031_00e7];
     let mut memory = WordBank::new(&mut words);
     let mut core = core_at(0, 0x100);
-    assert_eq!(rt; core.tick(&mut memory), on(Phase::T1));
-    assert_eq!(rt; core.tick(&mut memory), on(Phase::T2));
-    assert_eq!(rt; core.tick(&mut memory), retired());
+    assert_eq!(rt; core.tick(&mut memory), ticked(Phase::T1));
+    assert_eq!(rt; core.tick(&mut memory), ticked(Phase::T2));
+    assert_eq!(rt; core.tick(&mut memory), ticked(Phase::T0));
     assert_eq!(rt; core.pc, 0x102);
     assert_eq!(rt; core.registers.get(1), 4);
     assert_eq!(rt;
@@ -108,7 +92,12 @@ fn jump_to_an_unaligned_pc(rt: HostRuntime) {
 #[test]
 fn absent_instruction() -> Result<()> {
     let mut words = [BRANCH, LOAD];
-    refused_at_8(&mut WordBank::new(&mut words), 0, absent(2), Phase::T0)
+    refused_at_8(
+        &mut WordBank::new(&mut words),
+        0,
+        memory::Cause::NoWord.at(2).into(),
+        Phase::T0,
+    )
 }
 
 #[test]
@@ -130,8 +119,8 @@ fn unaligned_address() -> Result<()> {
 /// lw x4, 64(x0) and sw x4, 64(x0).
 #[test]
 fn absent_word() -> Result<()> {
-    refused_word(0x0400_2203, absent(16))?;
-    refused_word(0x0440_2023, absent(16))
+    refused_word(0x0400_2203, memory::Cause::NoWord.at(16).into())?;
+    refused_word(0x0440_2023, memory::Cause::NoWord.at(16).into())
 }
 
 /// sw x4, 0(x0).
@@ -143,20 +132,30 @@ fn fixed_word(rt: HostRuntime) -> Result<()> {
         to: 1,
         below: WordBank::new(&mut words),
     };
-    refused_at_8(&mut memory, 2, fixed(0), Phase::T2)?;
+    refused_at_8(
+        &mut memory,
+        2,
+        memory::Cause::FixedWord.at(0).into(),
+        Phase::T2,
+    )?;
     assert_eq!(rt; words, [BRANCH, LOAD, 0x0040_2023]);
     let bytes = [0x63, 0x02, 0, 0, 0x83, 0x21, 0, 0, 0x23, 0x20, 0x40, 0];
-    refused_at_8(&mut ReadOnlyImage::new(&bytes), 2, fixed(0), Phase::T2)
+    refused_at_8(
+        &mut ReadOnlyImage::new(&bytes),
+        2,
+        memory::Cause::FixedWord.at(0).into(),
+        Phase::T2,
+    )
 }
 
 /// The numbers of these refusals, and of the phases.
 #[test]
 fn numbers(rt: HostRuntime) {
     assert_eq!(rt; Cause::UnalignedPc.number(), 1);
-    assert_eq!(rt; absent(16).number(), 2);
+    assert_eq!(rt; Cause::from(memory::Cause::NoWord.at(16)).number(), 2);
     assert_eq!(rt; Cause::NoInstruction.number(), 3);
     assert_eq!(rt; Cause::UnalignedAddress.number(), 4);
-    assert_eq!(rt; fixed(0).number(), 5);
+    assert_eq!(rt; Cause::from(memory::Cause::FixedWord.at(0)).number(), 5);
     for (phase, number) in [(Phase::T0, 0), (Phase::T1, 1), (Phase::T2, 2)] {
         assert_eq!(rt; phase.number(), number);
     }

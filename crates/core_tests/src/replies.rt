@@ -1,7 +1,7 @@
-use super::seen::{cleared, core_at, on, refused, retired, state};
+use super::seen::{cleared, core_at, refused, state, ticked};
 use anyhow::{Result, ensure};
 use arch1::{Core, Phase};
-use memory::{Cause, MemoryFault};
+use memory::Cause;
 use processor::Reply;
 
 /// These replies change nothing and give nothing.
@@ -21,11 +21,11 @@ fn replies_that_do_not_suit(rt: HostRuntime) -> Result<()> {
     let read = Reply::Read(Ok(0x0020_0223));
     let written = Reply::Written(Ok(()));
     not_suited(&mut core, [Reply::Nothing, written])?;
-    assert_eq!(rt; core.clock(read), Some(on(Phase::T1)));
+    assert_eq!(rt; core.clock(read), Some(ticked(Phase::T1)));
     not_suited(&mut core, [read, written])?;
-    assert_eq!(rt; core.clock(Reply::Nothing), Some(on(Phase::T2)));
+    assert_eq!(rt; core.clock(Reply::Nothing), Some(ticked(Phase::T2)));
     not_suited(&mut core, [Reply::Nothing, read])?;
-    assert_eq!(rt; core.clock(written), Some(retired()));
+    assert_eq!(rt; core.clock(written), Some(ticked(Phase::T0)));
     assert_eq!(rt;
         state(&core),
         ([4, 0, 0x0020_0223, 0x0020_0223, 4], false, Phase::T0)
@@ -37,10 +37,7 @@ fn replies_that_do_not_suit(rt: HostRuntime) -> Result<()> {
 #[test]
 fn a_fault_for_a_reply(rt: HostRuntime) -> Result<()> {
     let mut core = core_at(12, 5);
-    let fault = MemoryFault {
-        cause: Cause::NoWord,
-        word: 3,
-    };
+    let fault = Cause::NoWord.at(3);
     not_suited(&mut core, [Reply::Nothing, Reply::Written(Err(fault))])?;
     let answer = core.clock(Reply::Read(Err(fault)));
     assert_eq!(rt; answer, Some(refused(fault.into(), Phase::T0, 12)));

@@ -9,19 +9,11 @@ pub(super) fn core_at(pc: u32, x2: u32) -> Core {
     Core::new(registers, pc)
 }
 
-/// The answer of a clock that goes on with the instruction.
-pub(super) fn on(next: Phase) -> Result<Ticked, CoreFault> {
+/// The answer of a clock that is not refused: the next phase, which is T0 where the instruction retires.
+pub(super) fn ticked(next: Phase) -> Result<Ticked, CoreFault> {
     Ok(Ticked {
         next,
-        retired: false,
-    })
-}
-
-/// The answer of a clock that retires the instruction.
-pub(super) fn retired() -> Result<Ticked, CoreFault> {
-    Ok(Ticked {
-        next: Phase::T0,
-        retired: true,
+        retired: next == Phase::T0,
     })
 }
 

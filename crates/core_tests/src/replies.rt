@@ -1,4 +1,4 @@
-use super::seen::{cleared, core_at, refused, state, ticked};
+use super::seen::{core_at, refused, state, ticked};
 use anyhow::{Result, ensure};
 use arch1::{Core, Phase};
 use memory::Cause;
@@ -6,10 +6,10 @@ use processor::Reply;
 
 /// These replies change nothing and give nothing.
 fn not_suited(core: &mut Core, replies: [Reply; 2]) -> Result<()> {
-    let before = state(core);
+    let before = *core;
     for reply in replies {
         ensure!(core.clock(reply) == None, "{reply:?} suits");
-        ensure!(state(core) == before, "{reply:?} changes the core");
+        ensure!(*core == before, "{reply:?} changes the core");
     }
     Ok(())
 }
@@ -41,6 +41,6 @@ fn a_fault_for_a_reply(rt: HostRuntime) -> Result<()> {
     not_suited(&mut core, [Reply::Nothing, Reply::Written(Err(fault))])?;
     let answer = core.clock(Reply::Read(Err(fault)));
     assert_eq!(rt; answer, Some(refused(fault.into(), Phase::T0, 12)));
-    assert_eq!(rt; state(&core), cleared(12));
+    assert_eq!(rt; core, Core::new(core.registers, 12));
     Ok(())
 }

@@ -34,8 +34,3 @@ pub(super) fn state(core: &Core) -> ([u32; 5], bool, Phase) {
         core.phase,
     )
 }
-
-/// The state of a core at `pc` with nothing else in it.
-pub(super) fn cleared(pc: u32) -> ([u32; 5], bool, Phase) {
-    ([pc, 0, 0, 0, 0], false, Phase::T0)
-}

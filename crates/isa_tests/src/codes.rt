@@ -109,6 +109,7 @@ fn no_instructions(rt: HostRuntime) {
 #[test]
 fn words_come_back(rt: HostRuntime) {
     let mut word: u32 = 1;
+    // One loop compares and counts: an iterator that counts would read every word a second time.
     let mut read = 0u32;
     for _ in 0..20_000 {
         word = word.wrapping_mul(1_664_525).wrapping_add(1_013_904_223);

@@ -1,5 +1,5 @@
 use layers::{Joined, Placed, Shield};
-use memory::{Kind, ReadMemory, WriteMemory};
+use memory::{Cause, Kind, MemoryFault, ReadMemory, WriteMemory};
 use stores::{ReadOnlyImage, WordBank};
 
 const LAST: u32 = 0x3fff_ffff;
@@ -8,25 +8,21 @@ const BEYOND: u32 = 0x4000_0000;
 
 const TOP: u32 = 0xffff_ffff;
 
-/// What a write answers: if it is refused, the number of the refusal and the word number in it.
-fn write<M: WriteMemory>(memory: &mut M, k: u32, mask: u8) -> Result<(), (u8, u32)> {
-    memory
-        .write(k, 0x1111_1111, mask)
-        .map_err(|fault| (fault.cause.number(), fault.word))
-}
+/// The word that is written.
+const NEW: u32 = 0x1111_1111;
 
-/// What such a write is to answer by a mask that is in order, for a word of this kind.
-fn answer(kind: Kind, k: u32) -> Result<(), (u8, u32)> {
+/// What a write is to answer by a mask that is in order, for a word of this kind.
+fn answer(kind: Kind, k: u32) -> Result<(), MemoryFault> {
     match kind {
-        Kind::Absent => Err((2, k)),
-        Kind::Fixed => Err((5, k)),
+        Kind::Absent => Err(Cause::NoWord.at(k)),
+        Kind::Fixed => Err(Cause::FixedWord.at(k)),
         Kind::Open => Ok(()),
     }
 }
 
-/// What a word holds after a write of 0x11111111, by its kind.
+/// What a word holds after a write of all its lanes, by its kind.
 fn written(kind: Kind, old: u32) -> u32 {
-    if kind == Kind::Open { 0x1111_1111 } else { old }
+    if kind == Kind::Open { NEW } else { old }
 }
 
 /// What is seen of word `k`: its kind, and the word if it can be read.
@@ -53,9 +49,9 @@ fn placed(rt: HostRuntime) {
         assert_eq!(rt; memory.kind(base), first);
         assert_eq!(rt; memory.kind(next), second);
         assert_eq!(rt; memory.kind(base.wrapping_sub(1)), Kind::Absent);
-        assert_eq!(rt; write(&mut memory, base, 15), answer(first, base));
-        assert_eq!(rt; write(&mut memory, base, 16), Err((9, base)));
-        assert_eq!(rt; write(&mut memory, next, 15), answer(second, next));
+        assert_eq!(rt; memory.write(base, NEW, 15), answer(first, base));
+        assert_eq!(rt; memory.write(base, NEW, 16), Err(Cause::BadMask.at(base)));
+        assert_eq!(rt; memory.write(next, NEW, 15), answer(second, next));
         assert_eq!(rt; words, [written(first, 10), written(second, 20)]);
     }
 }
@@ -96,10 +92,10 @@ fn shield(rt: HostRuntime) {
         };
         for (k, kind) in (0..3).zip(kinds) {
             assert_eq!(rt; memory.kind(k), kind);
-            assert_eq!(rt; write(&mut memory, k, 15), answer(kind, k));
-            assert_eq!(rt; write(&mut memory, k, 16), Err((9, k)));
+            assert_eq!(rt; memory.write(k, NEW, 15), answer(kind, k));
+            assert_eq!(rt; memory.write(k, NEW, 16), Err(Cause::BadMask.at(k)));
         }
-        assert_eq!(rt; write(&mut memory, 3, 15), Err((2, 3)));
+        assert_eq!(rt; memory.write(3, NEW, 15), Err(Cause::NoWord.at(3)));
     }
 }
 
@@ -129,13 +125,17 @@ fn shield_at_the_end(rt: HostRuntime) {
 #[test]
 fn joined(rt: HostRuntime) {
     let bytes = [9u8; 12];
-    for (at, kinds) in [
-        (0, [Kind::Fixed, Kind::Fixed, Kind::Fixed]),
-        (1, [Kind::Open, Kind::Fixed, Kind::Fixed]),
-        (2, [Kind::Open, Kind::Open, Kind::Fixed]),
-        (LAST, [Kind::Open, Kind::Open, Kind::Absent]),
-        (BEYOND, [Kind::Open, Kind::Open, Kind::Absent]),
-        (TOP, [Kind::Open, Kind::Open, Kind::Absent]),
+    let first = (Kind::Open, Some(1));
+    let second = (Kind::Open, Some(2));
+    let fixed = (Kind::Fixed, Some(0x0909_0909));
+    let absent = (Kind::Absent, None);
+    for (at, looks) in [
+        (0, [fixed, fixed, fixed]),
+        (1, [first, fixed, fixed]),
+        (2, [first, second, fixed]),
+        (LAST, [first, second, absent]),
+        (BEYOND, [first, second, absent]),
+        (TOP, [first, second, absent]),
     ] {
         let mut words = [1u32, 2];
         let mut memory = Joined {
@@ -143,15 +143,10 @@ fn joined(rt: HostRuntime) {
             left: WordBank::new(&mut words),
             right: ReadOnlyImage::new(&bytes),
         };
-        for ((k, kind), open) in (0..3).zip(kinds).zip([1, 2, 3]) {
-            let word = match kind {
-                Kind::Open => Some(open),
-                Kind::Fixed => Some(0x0909_0909),
-                Kind::Absent => None,
-            };
+        for (k, (kind, word)) in (0..3).zip(looks) {
             assert_eq!(rt; seen(&memory, k), (kind, word));
-            assert_eq!(rt; write(&mut memory, k, 15), answer(kind, k));
-            assert_eq!(rt; write(&mut memory, k, 16), Err((9, k)));
+            assert_eq!(rt; memory.write(k, NEW, 15), answer(kind, k));
+            assert_eq!(rt; memory.write(k, NEW, 16), Err(Cause::BadMask.at(k)));
         }
         assert_eq!(rt; seen(&memory, LAST), (Kind::Absent, None));
         assert_eq!(rt; seen(&memory, TOP), (Kind::Absent, None));

@@ -1,9 +1,9 @@
+use memory::{Cause, MemoryFault};
 use stack::{Settings, write_beside, write_read};
 use stores::{ByteImage, WordBank};
 
 /// Two words placed at 4 and joined at 6 to a bank of eight words with a shield over the last: writes word `k` and reads it.
-/// Answers the word, or the number of the refusal and the word number in it.
-fn through(k: u32, mask: u8) -> Result<u32, (u8, u32)> {
+fn through(k: u32, mask: u8) -> Result<u32, MemoryFault> {
     let mut bytes = [0u8; 8];
     let mut words = [5u32; 8];
     let settings = Settings {
@@ -21,18 +21,17 @@ fn through(k: u32, mask: u8) -> Result<u32, (u8, u32)> {
         mask,
         k,
     )
-    .map_err(|fault| (fault.cause.number(), fault.word))
 }
 
 #[test]
 fn all_three_layers(rt: HostRuntime) {
-    assert_eq!(rt; through(3, 15), Err((2, 3)));
+    assert_eq!(rt; through(3, 15), Err(Cause::NoWord.at(3)));
     assert_eq!(rt; through(4, 0b0101), Ok(0x0002_0004));
     assert_eq!(rt; through(5, 15), Ok(0x0102_0304));
     assert_eq!(rt; through(6, 0b1000), Ok(0x0100_0005));
-    assert_eq!(rt; through(7, 15), Err((5, 7)));
-    assert_eq!(rt; through(7, 16), Err((9, 7)));
-    assert_eq!(rt; through(8, 15), Err((2, 8)));
+    assert_eq!(rt; through(7, 15), Err(Cause::FixedWord.at(7)));
+    assert_eq!(rt; through(7, 16), Err(Cause::BadMask.at(7)));
+    assert_eq!(rt; through(8, 15), Err(Cause::NoWord.at(8)));
 }
 
 #[test]

@@ -1,11 +1,6 @@
 use anyhow::{Context, Result, ensure};
-use memory::{Kind, MemoryFault, ReadMemory, WriteMemory};
+use memory::{Cause, Kind, ReadMemory, WriteMemory};
 use stores::{ByteImage, ReadOnlyImage, WordBank};
-
-/// An answer with the number of the refusal in the place of the fault.
-fn numbered<T>(answer: Result<T, MemoryFault>) -> Result<T, u8> {
-    answer.map_err(|fault| fault.cause.number())
-}
 
 /// Lane by lane, the byte of `value` where the mask names the lane, and else that of `old`.
 fn expected(mask: u8, value: u32, old: u32) -> u32 {
@@ -25,10 +20,10 @@ fn seven_bytes(rt: HostRuntime) {
     let mut image = ByteImage::new(&mut bytes);
     assert_eq!(rt; image.kind(0), Kind::Open);
     assert_eq!(rt; image.kind(1), Kind::Absent);
-    assert_eq!(rt; numbered(image.read(0)), Ok(0x0403_0201));
-    assert_eq!(rt; numbered(image.read(1)), Err(2));
-    assert_eq!(rt; numbered(image.write(1, 0xffff_ffff, 15)), Err(2));
-    assert_eq!(rt; numbered(image.write(0, 0xffff_ffff, 15)), Ok(()));
+    assert_eq!(rt; image.read(0), Ok(0x0403_0201));
+    assert_eq!(rt; image.read(1), Err(Cause::NoWord.at(1)));
+    assert_eq!(rt; image.write(1, 0xffff_ffff, 15), Err(Cause::NoWord.at(1)));
+    assert_eq!(rt; image.write(0, 0xffff_ffff, 15), Ok(()));
     assert_eq!(rt; bytes, [255, 255, 255, 255, 5, 6, 7]);
 }
 
@@ -37,14 +32,14 @@ fn open_by_mask<M: WriteMemory>(memory: &mut M, k: u32, absent: u32) -> Result<(
     for mask in 0..17 {
         let old = memory.read(k).ok().context("no word")?;
         let (answer, new, at_absent) = if mask > 15 {
-            (Err(9), old, Err(9))
+            (Err(Cause::BadMask.at(k)), old, Cause::BadMask)
         } else {
-            (Ok(()), expected(mask, 0xa1b2_c3d4, old), Err(2))
+            (Ok(()), expected(mask, 0xa1b2_c3d4, old), Cause::NoWord)
         };
-        ensure!(numbered(memory.write(k, 0xa1b2_c3d4, mask)) == answer);
-        ensure!(numbered(memory.read(k)) == Ok(new));
-        ensure!(numbered(memory.write(k, 0x0102_0304, 15)) == Ok(()));
-        ensure!(numbered(memory.write(absent, 0xa1b2_c3d4, mask)) == at_absent);
+        ensure!(memory.write(k, 0xa1b2_c3d4, mask) == answer);
+        ensure!(memory.read(k) == Ok(new));
+        ensure!(memory.write(k, 0x0102_0304, 15) == Ok(()));
+        ensure!(memory.write(absent, 0xa1b2_c3d4, mask) == Err(at_absent.at(absent)));
     }
     Ok(())
 }
@@ -68,9 +63,27 @@ fn masks_on_fixed_words(rt: HostRuntime) {
     assert_eq!(rt; image.kind(0), Kind::Fixed);
     assert_eq!(rt; image.kind(1), Kind::Absent);
     for mask in 0..17 {
-        let (at_fixed, at_absent) = if mask > 15 { (9, 9) } else { (5, 2) };
-        assert_eq!(rt; numbered(image.write(0, 0xffff_ffff, mask)), Err(at_fixed));
-        assert_eq!(rt; numbered(image.write(1, 0xffff_ffff, mask)), Err(at_absent));
+        let (at_fixed, at_absent) = if mask > 15 {
+            (Cause::BadMask, Cause::BadMask)
+        } else {
+            (Cause::FixedWord, Cause::NoWord)
+        };
+        assert_eq!(rt; image.write(0, 0xffff_ffff, mask), Err(at_fixed.at(0)));
+        assert_eq!(rt; image.write(1, 0xffff_ffff, mask), Err(at_absent.at(1)));
     }
-    assert_eq!(rt; numbered(image.read(0)), Ok(0x0403_0201));
+    assert_eq!(rt; image.read(0), Ok(0x0403_0201));
+}
+
+/// The numbers of the causes; a fault has the cause and the word that it is made of.
+#[test]
+fn numbers(rt: HostRuntime) {
+    for (cause, number) in [
+        (Cause::NoWord, 2),
+        (Cause::FixedWord, 5),
+        (Cause::BadMask, 9),
+    ] {
+        let fault = cause.at(7);
+        assert_eq!(rt; fault.cause.number(), number);
+        assert_eq!(rt; fault.word, 7);
+    }
 }

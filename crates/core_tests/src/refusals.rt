@@ -1,6 +1,6 @@
 use super::seen::{core_at, refused, state, ticked};
 use anyhow::{Result, ensure};
-use arch1::{Core, Phase};
+use arch1::Phase;
 use layers::Shield;
 use machine::Cause;
 use memory::WriteMemory;
@@ -30,7 +30,7 @@ fn refused_at_8<M: WriteMemory>(
             ensure!(core.tick(memory).is_ok());
         }
         ensure!(core.tick(memory) == refused(cause, phase, 8));
-        ensure!(core == Core::new(core.registers, 8));
+        ensure!(state(&core) == ([8, 0, 0, 0, 0], false, Phase::T0));
         ensure!(core.registers.get(3) == BRANCH);
     }
     let registers = core.registers;
@@ -60,7 +60,7 @@ fn unaligned_pc(rt: HostRuntime) {
                 refused(Cause::UnalignedPc, Phase::T0, pc)
             );
         }
-        assert_eq!(rt; core, Core::new(core.registers, pc));
+        assert_eq!(rt; state(&core), ([pc, 0, 0, 0, 0], false, Phase::T0));
         let registers = core.registers;
         core.set(registers, 0);
         assert_eq!(rt; core.tick(&mut memory), ticked(Phase::T1));
@@ -82,7 +82,7 @@ fn jump_to_an_unaligned_pc(rt: HostRuntime) {
         core.tick(&mut memory),
         refused(Cause::UnalignedPc, Phase::T0, 0x102)
     );
-    assert_eq!(rt; core, Core::new(core.registers, 0x102));
+    assert_eq!(rt; state(&core), ([0x102, 0, 0, 0, 0], false, Phase::T0));
     assert_eq!(rt;
         core.tick(&mut memory),
         refused(Cause::UnalignedPc, Phase::T0, 0x102)

@@ -41,6 +41,6 @@ fn a_fault_for_a_reply(rt: HostRuntime) -> Result<()> {
     not_suited(&mut core, [Reply::Nothing, Reply::Written(Err(fault))])?;
     let answer = core.clock(Reply::Read(Err(fault)));
     assert_eq!(rt; answer, Some(refused(fault.into(), Phase::T0, 12)));
-    assert_eq!(rt; core, Core::new(core.registers, 12));
+    assert_eq!(rt; state(&core), ([12, 0, 0, 0, 0], false, Phase::T0));
     Ok(())
 }

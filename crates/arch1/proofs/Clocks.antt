@@ -11,7 +11,7 @@ use Rattle.actions.specs.Actions.{action_of_word}
 use Rattle.actions.specs.declared.action.Action.{Action}
 use Rattle.actions.specs.declared.action.Action.TheVariants.{Comp, CompI, Lui, Auipc, Ld, St, Jal, Jalr, Br}
 use Rattle.machine.specs.Machine as machine
-use Rattle.machine.specs.Machine.{Arch, Step, went, cannot, wrap, x, aligned, caused, fetched_word, loaded_word, stepped, carried, carried_word}
+use Rattle.machine.specs.Machine.{Arch, Step, went, cannot, wrap, x, aligned, caused, fetched_word, stepped, carried, carried_word}
 use Rattle.machine.specs.declared.cause.Cause.{Cause}
 use Rattle.machine.specs.declared.cause.Cause.TheVariants.{UnalignedPc, UnalignedAddress}
 use Rattle.memory.specs.Meaning.{read_of, allowed, patched}

@@ -13,7 +13,7 @@ use Rattle.actions.specs.Actions.{action_of_word}
 use Rattle.actions.specs.declared.action.Action.{Action}
 use Rattle.actions.specs.declared.action.Action.TheVariants.{Comp, CompI, Lui, Auipc, Ld, St, Jal, Jalr, Br}
 use Rattle.machine.specs.Machine as machine
-use Rattle.machine.specs.Machine.{Arch, Step, went, cannot, wrap, x, aligned, fetched_word, stepped, carried, carried_word, long}
+use Rattle.machine.specs.Machine.{Arch, Step, went, cannot, wrap, x, aligned, fetched_word, stepped, carried, long}
 use Rattle.machine.specs.declared.cause.Cause.TheVariants.{UnalignedPc, UnalignedAddress}
 use Rattle.memory.proofs.FourLanes.{each_lane}
 use Rattle.memory.specs.Lanes.{lane, named, of_lanes, taken, merged}

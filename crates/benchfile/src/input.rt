@@ -5,13 +5,20 @@ use std::alloc::Global;
 use std::io;
 use std::io::Read;
 
+// All bytes of an input, or the first `most` of a longer one.
+fn first_bytes<R: Read + Drop>(heap: Global, input: R, most: u64) -> io::Result<Vec<u8>>
+    ensures { IfOk result (λ v. IfSome (R.remaining input) (λ bytes. v.items ≡ take most bytes)) }
+{
+    let mut bytes = Vec::new(heap);
+    input.take(most).read_to_end(&mut bytes)?;
+    Ok(bytes)
+}
+
 /// The bytes of an input, for `read` to judge: all, or the first `enough_bytes()` of a longer one.
 pub fn read_input<R: Read + Drop>(heap: Global, input: R) -> io::Result<Vec<u8>>
     ensures { IfOk result (λ v. IfSome (R.remaining input) (λ bytes. v.items ≡ take 32793 bytes)) }
 {
-    let mut bytes = Vec::new(heap);
-    input.take(ENOUGH as u64).read_to_end(&mut bytes)?;
-    Ok(bytes)
+    first_bytes(heap, input, ENOUGH as u64)
 }
 
 #[cfg(test)]

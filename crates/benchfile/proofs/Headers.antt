@@ -31,3 +31,8 @@ pub reads_back_lem : (start base size limit : ℕ) → start < 2 ^ 32 → base <
     ReadsBack (header_of start base size limit) start base limit
 reads_back_lem start base size limit s b n l image file accepted =
     let verdict = gets_the_verdict start base size limit s b n l image in grind (arith, nat_tests)
+
+-- the same of bytes that are such a header
+pub verdict_of : (bytes : List ℕ) (start base size limit : ℕ) → bytes ≡ header_of start base size limit →
+    start < 2 ^ 32 → base < 2 ^ 32 → size < 2 ^ 32 → limit < 2 ^ 32 → GetsTheVerdict bytes start base size limit
+verdict_of bytes start base size limit same s b n l image = rw same (gets_the_verdict start base size limit s b n l image)

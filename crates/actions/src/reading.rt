@@ -1,5 +1,6 @@
 ghost use Rattle.std.specs.Prelude.{◌≡◌};
 ghost use Rattle.alu.specs.Operations.{word_of};
+ghost use Rattle.isa.specs.Decoding.{reading_of};
 ghost use Rattle.actions.specs.Actions.{action_by, action_of_word, FoundAsRead};
 
 use super::action::Action;
@@ -98,10 +99,19 @@ fn by_mnemonic(instruction: Instruction) -> Action
     }
 }
 
+// The instruction that `word` is, or none.
+#[tactic(auto, using(crate::proofs::Readings::found_word))]
+fn reading(word: u32) -> Option<Instruction>
+    ensures value { result ≡ reading_of word }
+    ensures law { FoundAsRead word }
+{
+    decode(word).ok()
+}
+
 /// What `word` does as an instruction; none if it is no instruction.
 pub fn action_of(word: u32) -> Option<Action>
     ensures value { result ≡ action_of_word word }
     ensures law { FoundAsRead word }
 {
-    decode(word).ok().map(by_mnemonic)
+    reading(word).map(by_mnemonic)
 }

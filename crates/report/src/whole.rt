@@ -20,8 +20,7 @@ fn add_lines(text: &mut String, base: u32, words: &[u32]) -> Result<usize, Alloc
         };
         write!(text, "{line}")?;
         instructions += usize::from(reading.is_ok());
-        // Counted by hand: the addresses may wrap at 2^32, as those of a range do not, and the number of
-        // a word, as `enumerate` gives it, need not fit the `u32` that it would be cast to.
+        // Counted by hand: the number of a word need not fit the `u32` that it would be cast to, and a range does not wrap at 2^32.
         address = address.wrapping_add(4);
     }
     Ok(instructions)

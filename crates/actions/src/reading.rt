@@ -99,7 +99,8 @@ fn by_mnemonic(instruction: Instruction) -> Action
     }
 }
 
-// The instruction that `word` is, or none.
+// The instruction that `word` is, or none. A function of its own: in one with `action_of` a mistake would be refused by the file of
+// its proof, and not by the contract.
 #[tactic(auto, using(crate::proofs::Readings::found_word))]
 fn reading(word: u32) -> Option<Instruction>
     ensures value { result ≡ reading_of word }

@@ -5,7 +5,8 @@ use std::alloc::Global;
 use std::io;
 use std::io::Read;
 
-// All bytes of an input, or the first `most` of a longer one.
+// All bytes of an input, or the first `most` of a longer one. A function of its own: in one with `read_input` a mistake would be
+// refused by the file of its proof, and not by the contract.
 fn first_bytes<R: Read + Drop>(heap: Global, input: R, most: u64) -> io::Result<Vec<u8>>
     ensures { IfOk result (λ v. IfSome (R.remaining input) (λ bytes. v.items ≡ take most bytes)) }
 {

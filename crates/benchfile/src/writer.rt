@@ -4,7 +4,8 @@ ghost use Rattle.benchfile.specs.Laws.{GetsTheVerdict, ReadsBack};
 
 use super::file::{HEADER_LENGTH, VERSION};
 
-// The mark, the version, three zeros and the four numbers, the lowest byte of each first.
+// The mark, the version, three zeros and the four numbers, the lowest byte of each first. A function of its own: in one with
+// `header` a mistake would be refused by the file of its proof, and not by the contract.
 fn lay_out(start: u32, base: u32, length: u32, limit: u32) -> [u8; HEADER_LENGTH]
     ensures { result ≡ header_of start base length limit }
 {

@@ -1,4 +1,4 @@
-ghost use Rattle.std.specs.Prelude.{◌≡◌};
+ghost use Rattle.std.specs.Prelude.{◌≡◌, ◌-◌, Some, None, if◌then◌else◌};
 ghost use Rattle.layers.specs.Placed.{placed_kinds, placed_words, placed_high, placed_fits, placed_rest, reaches};
 
 use memory::{Cause, Kind, MemoryFault, ReadMemory, WriteMemory};
@@ -10,11 +10,11 @@ pub struct Placed<M> {
     pub below: M,
 }
 
-// Whether word `k` stands for a word of the memory below.
-fn reaches_below(base: u32, k: u32) -> bool
-    ensures { result ≡ reaches base k }
+// The number that word `k` has in the memory below, if it stands for a word of it.
+fn number_below(base: u32, k: u32) -> Option<u32>
+    ensures { result ≡ (if reaches base k then Some (k - base) else None) }
 {
-    (base..0x4000_0000).contains(&k)
+    (base..0x4000_0000).contains(&k).then(|| k - base)
 }
 
 /// A placed memory can be read if the one below can.
@@ -28,21 +28,15 @@ impl<M: ReadMemory> ReadMemory for Placed<M> {
     ghost fits = { λ s. placed_fits s.base (M.ReadMemory.words s.below) (M.ReadMemory.fits s.below) };
 
     fn kind(&self, k: u32) -> Kind {
-        if reaches_below(self.base, k) {
-            self.below.kind(k - self.base)
-        } else {
-            Kind::Absent
+        match number_below(self.base, k) {
+            Some(j) => self.below.kind(j),
+            None => Kind::Absent,
         }
     }
 
     fn read(&self, k: u32) -> Result<u32, MemoryFault> {
-        if reaches_below(self.base, k) {
-            self.below
-                .read(k - self.base)
-                .map_err(|absent| absent.cause.at(k))
-        } else {
-            Err(Cause::NoWord.at(k))
-        }
+        let j = number_below(self.base, k).ok_or(Cause::NoWord.at(k))?;
+        self.below.read(j).map_err(|absent| absent.cause.at(k))
     }
 }
 
@@ -52,13 +46,11 @@ impl<M: WriteMemory> WriteMemory for Placed<M> {
 
     fn write(&mut self, k: u32, value: u32, mask: u8) -> Result<(), MemoryFault> {
         if mask > 15 {
-            Err(Cause::BadMask.at(k))
-        } else if reaches_below(self.base, k) {
-            self.below
-                .write(k - self.base, value, mask)
-                .map_err(|fault| fault.cause.at(k))
-        } else {
-            Err(Cause::NoWord.at(k))
+            return Err(Cause::BadMask.at(k));
         }
+        let j = number_below(self.base, k).ok_or(Cause::NoWord.at(k))?;
+        self.below
+            .write(j, value, mask)
+            .map_err(|fault| fault.cause.at(k))
     }
 }

@@ -17,7 +17,8 @@ fn old_bytes<M: ReadMemory>(memory: &M, word: u32, mask: u8) -> Option<Overwritt
         .map(|value| Overwritten::Bytes { word, value, mask })
 }
 
-// What the next clock writes over if it retires the instruction.
+// What the next clock writes over if it retires the instruction. The address and the lanes of a store are taken here and in the core:
+// its `access` gives none where the address is not aligned.
 pub(super) fn overwritten<M: ReadMemory>(core: &Core, memory: &M) -> Option<Overwritten>
     ensures { result ≡ overwritten_by (M.ReadMemory.kinds memory.now) (M.ReadMemory.words memory.now) core.now }
 {

@@ -3,6 +3,7 @@ use arch1::Core;
 use memory::WriteMemory;
 use stores::WordBank;
 
+// A loop of its own, to try the clocks one by one and not by `instruction`.
 /// How many clocks retire the next instruction, up to five; none if they do not.
 fn clocks<M: WriteMemory>(core: &mut Core, memory: &mut M) -> Option<u8> {
     for n in 1..6u8 {

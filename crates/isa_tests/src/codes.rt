@@ -45,6 +45,8 @@ const COMPI: [Mnemonic; 8] = [
     Mnemonic::Andi,
 ];
 
+// Both written out beside the decoder's own tables, on which the tests shall not lean.
+
 /// What COMP reads: each operation under funct7 0000000, and SUB and SRA under 0100000.
 fn comp(funct3: u32, funct7: u32) -> Result<Mnemonic, Refusal> {
     match (funct3, funct7) {

@@ -10,7 +10,7 @@ use output::output;
 use std::io;
 use std::io::Write;
 
-// The other program has the same lines: what they have in common beside its `output` is `read_input`.
+// The other program has the same three calls. One function for both would take `output` as a closure, to save them one line.
 fn main(rt: HostRuntime) -> io::Result<()> {
     let bytes = read_input(rt.alloc(), rt.stdin())?;
     let text = output(rt.alloc(), &bytes)?;

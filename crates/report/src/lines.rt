@@ -30,6 +30,7 @@ impl fmt::Display for WordLine {
 }
 
 /// The line of the counts: `5 words, 4 instructions`.
+// The clocks have a line of counts too, of another word and of narrower numbers; one type for both would need both as parameters.
 #[derive(Clone, Copy)]
 pub struct SummaryLine {
     pub words: usize,

@@ -10,6 +10,8 @@ use memory::WriteMemory;
 use registers::RegisterFile;
 use stack::Settings;
 
+// Calls and places come side by side, as `play` takes them: the places belong to the caller.
+
 /// Puts two stores under a stack, the left one placed, the right one shielded and both joined, and plays calls on a new bench over it.
 /// Says how many calls were made; later places keep their content. The law stands before the first call and after each.
 pub fn play_stacked<L: WriteMemory + Drop, R: WriteMemory + Drop>(

@@ -17,6 +17,9 @@ pub trait Cell {
 
     ghost lawful: { CellLaws holds word_at with_lanes spare };
 
+    // No method has a body here that serves both kinds: they differ in how they take a word from the cells, and in nothing else that
+    // these three do.
+
     /// Whether the cells hold word `k`.
     fn holds(cells: &[Self], k: u32) -> bool
         ensures { result ≡ holds (length cells.now) k };

@@ -24,8 +24,8 @@ fn make<M: WriteMemory>(bench: &mut Bench<M>, call: Call) -> Answer
     }
 }
 
-// That the rest of the memory stays is a clause here and at each call of a bench: it speaks of a member that only a memory to be written has.
 // Makes calls one after another, as many as there are places for their answers. The caller lends the places: there is no heap here.
+// That the rest of the memory stays is a clause here and at each call of a bench: it speaks of a member that only a memory to be written has.
 fn make_all<M: WriteMemory>(bench: &mut Bench<M>, calls: &[Call], places: &mut [Answer]) -> usize
     ensures count { result ≡ min (length calls.now) (length places.old) }
     ensures answers { take result places.new ≡ answers (state_of M.ReadMemory bench.old) (take result calls.now) }

@@ -1,5 +1,5 @@
 mod Undo
 mod Sound
-mod Loops
+pub mod Loops
 mod Laws
 pub mod Keeps

@@ -66,3 +66,6 @@ lawful s cs given t u new g l =
       each = λ k. rw (gave, ← answers_take k (fresh_of s) cs) (all_stand s (take k cs));
       last = rw (gave, left) (all_stand s cs);
     }
+
+pub reached : (s : Start) (cs : List Call) (given : List Answer) (t : State) → Lawful s cs given t → Reached s (standing 0 given) t
+reached s cs given t law = rw (law.gave, law.left) (all_reached s 0 (fresh_of s) cs fresh)

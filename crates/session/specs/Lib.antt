@@ -1,3 +1,4 @@
 pub mod Lists
 pub mod Lawful
+pub mod Replays
 pub mod Stacks

@@ -3,9 +3,14 @@
 #![tactic(auto)]
 
 mod call;
+mod counting;
 mod playing;
+mod replaying;
 mod stacked;
+mod straight;
 
 pub use call::{Answer, Call};
+pub use counting::standing;
 pub use playing::play;
+pub use replaying::{Replayed, replay};
 pub use stacked::play_stacked;

@@ -1,7 +1,7 @@
 ghost use Rattle.std.specs.Prelude.{◌≡◌, min, length, take, drop};
-ghost use Rattle.bench.specs.Law.{start_over};
+ghost use Rattle.bench.specs.Law.{start_over, Reached};
 ghost use Rattle.bench.specs.State.{state_of};
-ghost use Rattle.session.specs.Lists.{answered, called, answers, played};
+ghost use Rattle.session.specs.Lists.{answered, called, answers, played, standing};
 ghost use Rattle.session.specs.Lawful.{Lawful};
 
 use super::call::{Answer, Call};
@@ -42,7 +42,8 @@ fn make_all<M: WriteMemory>(bench: &mut Bench<M>, calls: &[Call], places: &mut [
 }
 
 /// A new bench over this memory, with these registers, at this PC, and calls on it one after another: as many as there are calls and places for their answers.
-/// Gives the bench back and says how many calls were made; later places keep their content. The law stands before the first call and after each.
+/// Gives the bench back and says how many calls were made; later places keep their content. The law stands before the first call and after each,
+/// and whoever goes on with the bench call by call has it from there.
 pub fn play<M: WriteMemory>(
     memory: M,
     registers: RegisterFile,
@@ -54,6 +55,7 @@ pub fn play<M: WriteMemory>(
     ensures later { drop result.1 places.new ≡ drop result.1 places.old }
     ensures rest { M.WriteMemory.rest result.0.memory ≡ M.WriteMemory.rest memory }
     ensures law { Lawful (start_over M.ReadMemory memory registers pc) (take result.1 calls.now) (take result.1 places.new) (state_of M.ReadMemory result.0) }
+    ensures reached { Reached (start_over M.ReadMemory memory registers pc) (standing 0 (take result.1 places.new)) (state_of M.ReadMemory result.0) }
 {
     let mut bench = Bench::new(memory, registers, pc);
     let count = make_all(&mut bench, calls, places);

@@ -1,0 +1,12 @@
+//! The language of commands: what a line of bytes says to a bench, and how a command is written.
+
+#![tactic(auto)]
+
+mod command;
+mod numbers;
+mod reading;
+mod words;
+
+pub use command::{Command, Line};
+pub use numbers::number;
+pub use reading::read_line;

@@ -1,3 +1,5 @@
+pub mod Texts
 pub mod Numbers
 pub mod Words
 pub mod Reading
+pub mod Lines

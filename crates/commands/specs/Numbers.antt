@@ -1,13 +1,9 @@
 -- Numbers, as commands and arguments write them.
-use Rattle.std.specs.Prelude.{ℕ, ◌^◌, Bool, ◌&&◌, List, length, take, drop, Some, None, Option, codes, nat_lt, if◌then◌else◌}
+use Rattle.std.specs.Prelude.{ℕ, ◌^◌, Bool, ◌&&◌, List, length, drop, Some, None, Option, codes, nat_lt, if◌then◌else◌}
 use Rattle.std.specs.Char.{is_digit}
 use Rattle.std.specs.List.{list_all}
-use Rattle.std.specs.Str.{bytes_eq}
 use Rattle.std.specs.Str.Parse.{digits_value}
-
--- the text begins with the other
-abbrev pub begins : List ℕ → List ℕ → Bool
-begins text start = bytes_eq (take (length start) text) start
+use Rattle.commands.specs.Texts.{begins}
 
 -- digits of the base and nothing else, at least one; letters are digits in either case
 abbrev pub is_numeral : ℕ → List ℕ → Bool

@@ -6,7 +6,8 @@ use Rattle.std.specs.Str.{bytes_eq}
 use Rattle.bench.specs.declared.look.Look.{Look}
 use Rattle.bench.specs.declared.look.Look.TheVariants as look
 use Rattle.session.specs.declared.call.Call.TheVariants as call
-use Rattle.commands.specs.Numbers.{begins, number_in, number_of}
+use Rattle.commands.specs.Numbers.{number_in, number_of}
+use Rattle.commands.specs.Texts.{begins}
 use Rattle.commands.specs.Words.{name_of, word_of, looks_by_name, commands_by_word}
 use Rattle.commands.specs.declared.command.Command.{Command}
 use Rattle.commands.specs.declared.command.Command.TheVariants as command

@@ -3,10 +3,12 @@
 #![tactic(auto)]
 
 mod command;
+mod lines;
 mod numbers;
 mod reading;
 mod words;
 
 pub use command::{Command, Line};
+pub use lines::split_line;
 pub use numbers::number;
 pub use reading::read_line;

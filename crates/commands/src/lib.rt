@@ -7,6 +7,7 @@ mod lines;
 mod numbers;
 mod reading;
 mod words;
+mod writing;
 
 pub use command::{Command, Line};
 pub use lines::split_line;

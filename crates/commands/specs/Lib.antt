@@ -4,3 +4,4 @@ pub mod Words
 pub mod Reading
 pub mod Lines
 pub mod Writing
+pub mod Table

@@ -1,6 +1,5 @@
 -- How a command is written, without an ending.
-use Rattle.std.specs.Prelude.{ℕ, List, ◌++◌, codes, decimal}
-use Rattle.std.specs.Prelude.{false}
+use Rattle.std.specs.Prelude.{ℕ, ◌^◌, ◌<◌, false, List, ◌++◌, codes, decimal}
 use Rattle.std.specs.Fmt.{digits}
 use Rattle.bench.specs.declared.look.Look.{Look}
 use Rattle.bench.specs.declared.look.Look.TheVariants as look
@@ -47,3 +46,18 @@ after_word command.Quit = codes ""
 
 abbrev pub command_text : Command → List ℕ
 command_text c = word_of c ++ after_word c
+
+-- the numbers have the bits of their types, as those of every command in the code have
+abbrev pub IsSizedLook : Look → Type 0
+IsSizedLook (look.Register n) = n < 2 ^ 8
+IsSizedLook (look.Byte address) = address < 2 ^ 32
+IsSizedLook _ = Unit {0}
+
+abbrev pub IsSizedCall : Call → Type 0
+IsSizedCall (call.Run n) = n < 2 ^ 32
+IsSizedCall (call.Look at) = IsSizedLook at
+IsSizedCall _ = Unit {0}
+
+abbrev pub IsSized : Command → Type 0
+IsSized (command.Call c) = IsSizedCall c
+IsSized _ = Unit {0}

@@ -6,6 +6,7 @@ mod command;
 mod lines;
 mod numbers;
 mod reading;
+mod round_trip;
 mod words;
 mod writing;
 
@@ -13,3 +14,4 @@ pub use command::{Command, Line};
 pub use lines::split_line;
 pub use numbers::number;
 pub use reading::read_line;
+pub use round_trip::reread;

@@ -1,5 +1,6 @@
 ghost use Rattle.std.specs.Prelude.{◌≡◌};
 ghost use Rattle.commands.specs.Reading.{look_of, command_of, line_of};
+ghost use Rattle.commands.specs.Table.{Reads};
 
 use super::command::{Command, Line};
 use super::numbers::{digits, number};
@@ -32,13 +33,22 @@ fn command(text: &[u8]) -> Option<Command>
     command_by_word(text)
 }
 
-/// What a line says, by its bytes without its ending. Words are parted by exactly one space. It is `Other` where it is no command, as
-/// with a number of more than 32 bits.
-pub fn read_line(line: &[u8]) -> Line
-    ensures { result ≡ line_of line.now }
+// What a line says.
+fn line(text: &[u8]) -> Line
+    ensures { result ≡ line_of text.now }
 {
-    if line.is_empty() {
+    if text.is_empty() {
         return Line::Empty;
     }
-    command(line).map_or(Line::Other, Line::Command)
+    command(text).map_or(Line::Other, Line::Command)
+}
+
+/// What a line says, by its bytes without its ending. Words are parted by exactly one space. It is `Other` where it is no command, as
+/// with a number of more than 32 bits.
+#[tactic(auto, using(crate::proofs::Table::reads))]
+pub fn read_line(text: &[u8]) -> Line
+    ensures value { result ≡ line_of text.now }
+    ensures law { Reads text.now result }
+{
+    line(text)
 }

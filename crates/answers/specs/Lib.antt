@@ -1,0 +1,3 @@
+pub mod Refusals
+pub mod Shown
+pub mod Answers

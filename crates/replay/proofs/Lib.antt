@@ -1,0 +1,2 @@
+mod Growing
+mod Playing

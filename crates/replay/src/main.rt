@@ -1,0 +1,13 @@
+//! Plays a script of commands on a bench in one call, and runs the instructions that stand after it straight.
+
+#![tactic(auto)]
+
+mod calls;
+mod lines;
+mod states;
+
+use std::io;
+
+fn main(rt: HostRuntime) -> io::Result<()> {
+    Ok(())
+}

@@ -1,7 +1,6 @@
 ghost use Rattle.std.specs.Prelude.{◌≡◌, ◌++◌, codes, IfOk};
 ghost use Rattle.std.specs.Option.{option_map};
 ghost use Rattle.bench.specs.State.{state_of};
-ghost use Rattle.commands.specs.Reading.{line_of};
 ghost use Rattle.conversation.specs.Replies.{reply, state_after, LineKept};
 
 use super::calls::{make, show};
@@ -23,6 +22,7 @@ fn echo(heap: Global, line: &[u8]) -> Result<Vec<u8>, AllocError>
 }
 
 /// What a console answers to a line, given without its ending: the bytes to send, which may be none, or `None` where the line ends it.
+#[tactic(auto, using(crate::proofs::Kept::line_kept))]
 pub fn reply_to<M: WriteMemory>(
     heap: Global,
     bench: &mut Bench<M>,
@@ -31,6 +31,7 @@ pub fn reply_to<M: WriteMemory>(
     ensures bytes { IfOk result (λ r. option_map (λ v. v.items) r ≡ reply line.now (state_of M.ReadMemory bench.old)) }
     ensures state { state_of M.ReadMemory bench.new ≡ state_after line.now (state_of M.ReadMemory bench.old) }
     ensures rest { M.WriteMemory.rest bench.new.memory ≡ M.WriteMemory.rest bench.old.memory }
+    ensures law { LineKept line.now (state_of M.ReadMemory bench.old) (state_of M.ReadMemory bench.new) }
 {
     match read_line(line) {
         Line::Empty => Ok(Some(Vec::new(heap))),

@@ -3,6 +3,10 @@
 #![tactic(auto)]
 
 mod calls;
+mod exchange;
+mod file;
 mod reply;
 
+pub use exchange::converse;
+pub use file::converse_over;
 pub use reply::reply_to;

@@ -21,6 +21,11 @@ abbrev pub bank_from : Option Ram → ℕ
 bank_from None = 2 ^ 30
 bank_from (Some ram) = ram.at
 
+-- without a bank it has no words
+abbrev pub bank_length : Option Ram → ℕ
+bank_length None = 0
+bank_length (Some ram) = ram.words
+
 abbrev pub mapped : {L R : Type 0} → Options → ℕ → L → R → Joined (Shield (Placed L)) (Placed R)
 mapped o base image bank = record {
   at = bank_from o.ram;

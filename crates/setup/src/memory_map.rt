@@ -1,5 +1,5 @@
 ghost use Rattle.std.specs.Prelude.{◌≡◌};
-ghost use Rattle.setup.specs.Map.{range_from, bank_from, mapped};
+ghost use Rattle.setup.specs.Map.{range_from, bank_from, bank_length, mapped};
 
 use super::options::{Options, WordRange};
 use layers::{Joined, Placed, Shield};
@@ -23,6 +23,13 @@ impl Options {
         ensures { result ≡ bank_from self.ram }
     {
         self.ram.map_or(NO_WORD, |ram| ram.at)
+    }
+
+    /// How many words the bank has: without the option none.
+    pub fn bank_words(self) -> u32
+        ensures { result ≡ bank_length self.ram }
+    {
+        self.ram.map_or(0, |ram| ram.words)
     }
 
     /// The memory of an image and a bank: the image is placed at word number `base`, under the shield, and from the bank's first word on

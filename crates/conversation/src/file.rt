@@ -1,0 +1,47 @@
+use super::exchange::converse;
+use bench::Bench;
+use benchfile::BenchFile;
+use registers::RegisterFile;
+use report::RefusedLine;
+use setup::Options;
+use std::alloc::Global;
+use std::io;
+use std::io::{BufRead, Write};
+use stores::{ByteImage, WordBank};
+
+// A conversation over a bench file: registers zero, PC at the file's start, its image placed at its base.
+fn open<R: BufRead, W: Write>(
+    heap: Global,
+    file: BenchFile<'_>,
+    options: Options,
+    input: &mut R,
+    output: &mut W,
+) -> io::Result<()> {
+    // The image as bytes of its own, which calls may write.
+    let mut image = file.image.to_vec(heap)?;
+    let mut bank = vec![in heap; 0u32; options.bank_words() as usize]?;
+    let memory = options.map(
+        file.base / 4,
+        ByteImage::new(image.as_mut_slice()),
+        WordBank::new(bank.as_mut_slice()),
+    );
+    let mut bench = Bench::new(memory, RegisterFile::new([0; 32]), file.start);
+    converse(heap, &mut bench, input, output)
+}
+
+/// All that a console does with the bytes of a bench file: a conversation over it, or the line of the file's refusal.
+pub fn converse_over<R: BufRead, W: Write>(
+    heap: Global,
+    bytes: &[u8],
+    options: Options,
+    input: &mut R,
+    output: &mut W,
+) -> io::Result<()> {
+    match benchfile::read(bytes) {
+        Ok(file) => open(heap, file, options, input, output),
+        Err(refusal) => {
+            let line = RefusedLine(refusal.number()).to_string(heap)?;
+            output.write_all(line.as_bytes())
+        }
+    }
+}

@@ -1,0 +1,9 @@
+//! What a program that drives a bench is set up with: its options, and the memory that they make of a file's image and a word bank.
+
+#![tactic(auto)]
+
+mod memory_map;
+mod options;
+
+pub use memory_map::Map;
+pub use options::{Arguments, Options, Ram, WordRange, read_arguments, read_options};

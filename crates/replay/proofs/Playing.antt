@@ -1,8 +1,10 @@
 -- The lines of calls, one after another.
-use Rattle.std.proofs.Common.{◌≡◌, ℕ, suc, ◌+◌, ◌-◌, ◌<◌, ◌≤◌, List, [], ◌∷◌, ◌++◌, length, get_or, take, drop, refl, ap, ◌∙◌, arith}
+use Rattle.std.proofs.Common.{◌≡◌, ℕ, suc, ◌+◌, ◌-◌, ◌<◌, ◌≤◌, Bool, List, [], ◌∷◌, ◌++◌, length, get_or, take, drop, refl, ap, ◌∙◌, arith}
 use Rattle.std.proofs.lemmas.List.{take_all}
 use Rattle.replay.proofs.Growing.{grown}
-use Rattle.replay.specs.Lines.{step_line, call_lines}
+use Rattle.replay.specs.Lines.{step_line, call_lines, played_head, straight_head, verdict}
+use Rattle.replay.specs.Whole.{whole_text}
+use Rattle.std.specs.Str.{bytes_eq}
 use Rattle.session.specs.declared.call.Answer.{Answer}
 use Rattle.session.specs.declared.call.Call.{Call}
 
@@ -38,3 +40,8 @@ no_answers (c ∷ cs) (a ∷ p ∷ q ∷ k ∷ r ∷ more) h = absurd (omega (ar
 pub smaller : (cs : List Call) → 1 ≤ length cs → length (take (length cs - 1) (drop 1 cs)) < length cs
 smaller [] h = absurd (omega (arith, h))
 smaller (c ∷ cs) h = let one : suc (length cs) - 1 ≡ length cs = omega arith in rw (one, take_all (length cs) cs (omega arith)) (omega arith)
+
+-- all that is told, piece by piece
+pub told : (cs : List Call) (gs : List Answer) (n : ℕ) (empty text after a b x y : List ℕ) (same : Bool) → empty ≡ [] → text ≡ empty ++ call_lines cs gs →
+    a ≡ x → b ≡ y → same ≡ bytes_eq a b → after ≡ text ++ (played_head n ++ (a ++ (straight_head n ++ (b ++ verdict same)))) → after ≡ whole_text cs gs n x y
+told cs gs n empty text after a b x y same e f g h k l = rw (l, f, e, k, g, h) refl

@@ -1,5 +1,5 @@
 -- The lines of calls. Byte 10 ends each.
-use Rattle.std.specs.Prelude.{ℕ, ◌%◌, ◌^◌, List, [], ◌∷◌, ◌++◌, codes, decimal, Ok, Err, Result}
+use Rattle.std.specs.Prelude.{ℕ, ◌%◌, ◌^◌, Bool, List, [], ◌∷◌, ◌++◌, codes, decimal, Ok, Err, Result, if◌then◌else◌}
 use Rattle.answers.specs.Answers.{answer_line}
 use Rattle.assembly.specs.Hexadecimal.{eight_digits}
 use Rattle.bench.specs.declared.look.LookFault.{LookFault}
@@ -41,3 +41,19 @@ step_line c a phase pc clocks retired = watched_of phase pc clocks retired ++ (c
 abbrev pub call_lines : List Call → List Answer → List ℕ
 call_lines (c ∷ cs) (a ∷ phase ∷ pc ∷ clocks ∷ retired ∷ more) = step_line c a phase pc clocks retired ++ call_lines cs more
 call_lines _ _ = []
+
+-- how many instructions stand, before the state that calls led to
+abbrev pub played_head : ℕ → List ℕ
+played_head n = codes "after the calls " ++ (decimal n ++ codes " instructions stand:\n")
+
+-- before the state after so many steps and nothing else
+abbrev pub straight_head : ℕ → List ℕ
+straight_head n = codes "after " ++ (decimal n ++ codes " steps alone:\n")
+
+-- whether both states are shown alike
+abbrev pub verdict : Bool → List ℕ
+verdict alike = if alike then codes "both are the same\n" else codes "they differ\n"
+
+-- the first line of a script that is no command
+abbrev pub no_command : ℕ → List ℕ
+no_command n = codes "line " ++ (decimal n ++ codes ": what?\n")

@@ -1,5 +1,5 @@
 ghost use Rattle.std.specs.Prelude.{◌≡◌, Some};
-ghost use Rattle.replay.specs.Lines.{seen, watched_of, call_of, step_line};
+ghost use Rattle.replay.specs.Lines.{seen, watched_of, call_of, step_line, played_head, straight_head, verdict, no_command};
 
 use answers::AnswerLine;
 use assembly::Hex;
@@ -72,5 +72,60 @@ impl fmt::Display for StepLine {
         let watched = self.watched;
         let made = self.made;
         write!(f, "{watched} | {made}")
+    }
+}
+
+/// The line before the state that the calls led to, by how many instructions stand: `after the calls 57 instructions stand:`.
+#[derive(Clone, Copy)]
+pub struct PlayedHead(pub u128);
+
+impl fmt::Display for PlayedHead {
+    ghost output = { λ h. Some (played_head h.0) };
+
+    fn fmt<W: fmt::Write>(&self, f: &mut fmt::Formatter<W>) -> fmt::Result {
+        let standing = self.0;
+        writeln!(f, "after the calls {standing} instructions stand:")
+    }
+}
+
+/// The line before the state of a bench that made so many steps and nothing else: `after 57 steps alone:`.
+#[derive(Clone, Copy)]
+pub struct StraightHead(pub u128);
+
+impl fmt::Display for StraightHead {
+    ghost output = { λ h. Some (straight_head h.0) };
+
+    fn fmt<W: fmt::Write>(&self, f: &mut fmt::Formatter<W>) -> fmt::Result {
+        let steps = self.0;
+        writeln!(f, "after {steps} steps alone:")
+    }
+}
+
+/// Whether both states are shown alike: `both are the same`.
+#[derive(Clone, Copy)]
+pub struct Verdict(pub bool);
+
+impl fmt::Display for Verdict {
+    ghost output = { λ v. Some (verdict v.0) };
+
+    fn fmt<W: fmt::Write>(&self, f: &mut fmt::Formatter<W>) -> fmt::Result {
+        if self.0 {
+            writeln!(f, "both are the same")
+        } else {
+            writeln!(f, "they differ")
+        }
+    }
+}
+
+/// The line of a script that is not played, by the number of its first line that is no command: `line 7: what?`.
+#[derive(Clone, Copy)]
+pub struct NoCommandLine(pub usize);
+
+impl fmt::Display for NoCommandLine {
+    ghost output = { λ l. Some (no_command l.0) };
+
+    fn fmt<W: fmt::Write>(&self, f: &mut fmt::Formatter<W>) -> fmt::Result {
+        let line = self.0;
+        writeln!(f, "line {line}: what?")
     }
 }

@@ -5,6 +5,7 @@
 mod calls;
 mod lines;
 mod states;
+mod whole;
 
 use std::io;
 

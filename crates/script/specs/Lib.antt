@@ -1,0 +1,2 @@
+pub mod Script
+pub mod Looks

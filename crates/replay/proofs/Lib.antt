@@ -1,2 +1,3 @@
 mod Growing
-mod Playing
+mod Telling
+mod Alike

@@ -1,3 +1,5 @@
 pub mod Lines
 pub mod States
 pub mod Whole
+pub mod Tells
+pub mod Plays

@@ -4,6 +4,8 @@
 
 mod calls;
 mod lines;
+mod output;
+mod playing;
 mod states;
 mod whole;
 

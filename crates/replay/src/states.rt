@@ -12,7 +12,7 @@ use std::alloc::AllocError;
 #[derive(Clone, Copy)]
 pub struct Span {
     pub from: u32,
-    pub length: u32,
+    pub length: u64,
 }
 
 // Adds the line of one look.

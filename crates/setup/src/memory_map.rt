@@ -18,8 +18,8 @@ impl Options {
         self.shield.unwrap_or(WordRange { from: 0, to: 0 })
     }
 
-    // Where the bank begins: without the option where no word is.
-    fn bank_at(self) -> u32
+    /// The number of the first word that the bank shows: without the option one that no memory has.
+    pub fn bank_at(self) -> u32
         ensures { result ≡ bank_from self.ram }
     {
         self.ram.map_or(NO_WORD, |ram| ram.at)

@@ -1,4 +1,4 @@
-use Rattle.replay.proofs.Playing.{told}
+use Rattle.replay.proofs.Telling.{told}
 use Rattle.replay.proofs.whole.whole.Goals as goal
 
 pub returns : goal.returns

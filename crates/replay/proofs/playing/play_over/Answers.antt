@@ -1,0 +1,28 @@
+use Rattle.std.proofs.Common.{◌≡◌, length, string_bytes, rules, arith}
+use Rattle.std.proofs.lemmas.Result.{IfOk-weaker}
+use Rattle.bench.specs.Law.{start_over}
+use Rattle.bench.specs.State.{state_of}
+use Rattle.replay.proofs.Alike.{every, tells}
+use Rattle.replay.specs.States.{state_text}
+use Rattle.replay.specs.Tells.{Tells, cleared}
+use Rattle.replay.specs.Whole.{whole_text}
+use Rattle.replay.proofs.playing.play_over.Goals as goal
+
+pub returns : goal.returns
+returns g c =
+    let m = g.M.ReadMemory in
+    let z = g.S.ReadMemory in
+    let y = g.F.ReadMemory in
+    let s = start_over m c.args.memory cleared c.args.start in
+    let twin = start_over z c.args.twin cleared c.args.start in
+    let start = start_over y c.args.fresh cleared c.args.start in
+    let made = c.replay-replayed in
+    let t = state_of m made.result.played in
+    let u = state_of z made.result.straight in
+    let f = state_of y c.new-fresh.result in
+    let image = c.args.spans.image in
+    let bank = c.args.spans.bank in
+    let given = c.deref-2.result.now in
+    let law = every s twin c.args.calls.now _ made.result.made made.new.places _ given made.result.standing t u ? ? ? ? ? ? in
+    IfOk-weaker c.whole.result (λ x. string_bytes x ≡ whole_text c.args.calls.now given made.result.standing (state_text image bank t f) (state_text image bank u f))
+    (λ x. Tells s twin start image bank c.args.calls.now (string_bytes x)) (λ x e. tells s twin start image bank c.args.calls.now given made.result.standing t u f (string_bytes x) law ? e) c.whole.ensures

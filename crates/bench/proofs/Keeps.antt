@@ -1,12 +1,12 @@
 -- Each call keeps the law, whatever calls came before it.
-use Rattle.std.proofs.Common.{◌≡◌, ℕ, ◌+◌, Err, Result, arith}
+use Rattle.std.proofs.Common.{◌≡◌, ℕ, ◌+◌, ◌≤◌, Err, Result, arith}
 use Rattle.arch1.specs.declared.phase.CoreFault.{CoreFault}
 use Rattle.arch1.specs.declared.phase.Ticked.{Ticked}
 use Rattle.memory.specs.declared.interfaces.ReadMemory.{Ghosts}
 use Rattle.registers.specs.declared.file.RegisterFile.{RegisterFile}
-use Rattle.bench.proofs.Laws.{Lives, new_lives, tick_lives, step_lives, run_lives, back_lives, lives_stands}
+use Rattle.bench.proofs.Laws.{Lives, new_lives, tick_lives, step_lives, run_lives, back_lives, lives_stood, lives_stands}
 use Rattle.bench.specs.Calls.{new_state, tick_answer, ticked_state, step_answer, stepped_state, run_answer, ran_state, back_answer, back_state}
-use Rattle.bench.specs.Law.{Start, Stands, tick_count, step_count, run_count, back_count, Reached, fresh, ticked, did_step, did_run, went_back, Kept, TickKept, StepKept, RunKept, BackKept, BeginsOver, start_over}
+use Rattle.bench.specs.Law.{Start, Stands, tick_count, step_count, run_count, back_count, taken_back, Reached, fresh, ticked, did_step, did_run, went_back, Kept, TickKept, StepKept, RunKept, BackKept, BeginsOver, start_over}
 use Rattle.bench.specs.State.{State}
 use Rattle.bench.specs.declared.answers.BackFault.{BackFault}
 use Rattle.bench.specs.declared.answers.RunFault.{RunFault}
@@ -21,6 +21,10 @@ reached_lives s n t (went_back m u h) = back_lives s m u (reached_lives s m u h)
 
 pub reached_stands : (s : Start) (n : ℕ) (t : State) → Reached s n t → Stands s n t
 reached_stands s n t h = lives_stands s n t (reached_lives s n t h)
+
+-- what a way back takes back has stood
+pub reached_stood : (s : Start) (n : ℕ) (t : State) → Reached s n t → taken_back (back_answer t) ≤ n
+reached_stood s n t h = lives_stood s n t (reached_lives s n t h)
 
 kept : (count : ℕ → ℕ) (t u : State) → ((s : Start) (n : ℕ) → Reached s n t → Reached s (count n) u) → Kept count t u
 kept count t u h = record { reached = h; stands = λ s n r. reached_stands s (count n) u (h s n r) }
@@ -51,4 +55,4 @@ run_kept m t u r e f = kept (λ n. run_count n r) t u (λ s n h. rw (e, f) (did_
 
 pub back_kept : (t u : State) (r : Result ℕ BackFault) → r ≡ back_answer t → u ≡ back_state t → BackKept r t u
 unfolding BackKept
-back_kept t u r e f = kept (λ n. back_count n r) t u (λ s n h. rw (e, f) (went_back n t h))
+back_kept t u r e f = (kept (λ n. back_count n r) t u (λ s n h. rw (e, f) (went_back n t h)), λ s n h. rw e (reached_stood s n t h))

@@ -19,7 +19,7 @@ use Rattle.bench.proofs.Sound.{Past, Sound, sound, sound_new, TickBy, TickOutcom
 use Rattle.bench.proofs.Undo.{Fit}
 use Rattle.bench.specs.Calls.{down, open_clocks, new_state, tick_answer, ticked_state, entry, stepped_of, last_answer, step_answer_on, stepped_on, step_answer_for, stepped_for, step_answer, stepped_state}
 use Rattle.bench.specs.Calls.{run_answer_on, ran_on, run_answer_for, ran_for, run_answer, ran_state, closed_state, took_back, took_answer, back_state, back_answer}
-use Rattle.bench.specs.Law.{Start, Stands, Next, tick_count, step_count, run_count, back_count}
+use Rattle.bench.specs.Law.{Start, Stands, Next, tick_count, step_count, run_count, back_count, taken_back}
 use Rattle.bench.specs.State.{State}
 use Rattle.bench.specs.declared.answers.Stepped.{Stepped}
 use Rattle.bench.specs.declared.answers.Stop.TheVariants as stop
@@ -157,6 +157,25 @@ module _ (s : Start) (n : ℕ) (r : Run) (k q : ℕ) (there : after s.kinds s.ar
 
 back_law : (s : Start) (n : ℕ) (r : Run) (t : State) → Sound s n r t → Lives s (back_count n (back_answer t)) (back_state t)
 back_law s n r t (sound c j k q g there owes clk ret past fit) = back_by s n r k q there ret fit j c g owes clk past
+
+-- no more is taken back than stands
+took_stood : (s : Start) (j : List Entry) (n : ℕ) (r : Run) → Past s j n r → taken_back (took_answer (popped j)) ≤ n
+took_stood s [] n r p = omega arith
+took_stood s (e ∷ es) n r p = omega (arith, p.3)
+
+stood_by : (s : Start) (n : ℕ) (r : Run) (j : List Entry) (k q : ℕ) (c : Datapath) (g : ℕ) → Owes s.kinds r.arch g c → Past s j n r →
+    taken_back (back_answer (record { core = c; journal = j; clocks = k; retired = q; kinds = s.kinds; words = r.arch.words })) ≤ n
+stood_by s n r j k q c g (idle t i d a f) p = took_stood s j n r p
+stood_by s n r j k q c g (fetched i w a f e) p = omega arith
+stood_by s n r j k q c g (decoded w d a f e) p = omega arith
+stood_by s n r j k q c g (loading w v f l rd rs1 imm e y h) p = omega arith
+stood_by s n r j k q c g (branching w d a cmp rs1 rs2 imm e y) p = omega arith
+
+stood : (s : Start) (n : ℕ) (r : Run) (t : State) → Sound s n r t → taken_back (back_answer t) ≤ n
+stood s n r t (sound c j k q g there owes clk ret past fit) = stood_by s n r j k q c g owes past
+
+pub lives_stood : (s : Start) (n : ℕ) (t : State) → Lives s n t → taken_back (back_answer t) ≤ n
+lives_stood s n t o = stood s n o.0 t o.1
 
 pub back_lives : (s : Start) (n : ℕ) (t : State) → Lives s n t → Lives s (back_count n (back_answer t)) (back_state t)
 back_lives s n t o = back_law s n o.0 t o.1

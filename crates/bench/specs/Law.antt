@@ -1,5 +1,5 @@
 -- What stands of a bench after n instructions, counted from the answers of its calls: the law between the bench and RV32I by whole instructions.
-use Rattle.std.specs.Prelude.{◌≡◌, ℕ, suc, ◌+◌, ◌-◌, ◌*◌, ◌%◌, ◌^◌, ◌<◌, cond, Some, Ok, Err, Result}
+use Rattle.std.specs.Prelude.{◌≡◌, ℕ, suc, ◌+◌, ◌-◌, ◌*◌, ◌%◌, ◌^◌, ◌<◌, ◌≤◌, cond, Some, Ok, Err, Result}
 use Rattle.arch1.specs.declared.phase.CoreFault.{CoreFault}
 use Rattle.arch1.specs.declared.phase.Phase.TheVariants.{T0}
 use Rattle.arch1.specs.declared.phase.Ticked.{Ticked}
@@ -66,6 +66,11 @@ abbrev pub back_count : ℕ → Result ℕ BackFault → ℕ
 back_count n (Ok k) = n - k
 back_count n (Err f) = n
 
+-- how many instructions an answer of back takes back
+abbrev pub taken_back : Result ℕ BackFault → ℕ
+taken_back (Ok k) = k
+taken_back (Err f) = 0
+
 -- some calls on a new bench of s left it in the state t, and by their answers n instructions stand
 pub data Reached (s : Start) : ℕ → State → Type 0 where
   fresh : Reached s 0 (new_state s.kinds s.arch.words s.arch.registers s.arch.pc)
@@ -79,6 +84,10 @@ pub record Kept (count : ℕ → ℕ) (t u : State) : Type 0 where
   pub reached : (s : Start) (n : ℕ) → Reached s n t → Reached s (count n) u
   pub stands : (s : Start) (n : ℕ) → Reached s n t → Stands s (count n) u
 
+-- from t no more instructions than stand are taken back, so that the count does not stop short at 0
+abbrev pub Stood : ℕ → State → Type 0
+Stood k t = (s : Start) (n : ℕ) → Reached s n t → k ≤ n
+
 -- by the answer of each call
 unfoldable pub TickKept : Result Ticked CoreFault → State → State → Type 0
 TickKept r t u = Kept (λ n. tick_count n r) t u
@@ -90,7 +99,7 @@ unfoldable pub RunKept : Result ℕ RunFault → State → State → Type 0
 RunKept r t u = Kept (λ n. run_count n r) t u
 
 unfoldable pub BackKept : Result ℕ BackFault → State → State → Type 0
-BackKept r t u = Kept (λ n. back_count n r) t u
+BackKept r t u = Kept (λ n. back_count n r) t u × Stood (taken_back r) t
 
 -- a new bench of s
 pub record Begins (s : Start) (t : State) : Type 0 where

@@ -1,11 +1,11 @@
 -- One call more, and the law for every list of calls.
-use Rattle.std.proofs.Common.{◌≡◌, ℕ, zero, suc, ◌+◌, ◌<◌, List, [], ◌∷◌, ◌++◌, length, get_or, take, drop, set, sym, refl, ap, ◌∙◌, arith}
+use Rattle.std.proofs.Common.{◌≡◌, ℕ, zero, suc, ◌+◌, ◌<◌, ◌≤◌, List, [], ◌∷◌, ◌++◌, length, get_or, take, drop, set, sym, refl, ap, ◌∙◌, arith}
 use Rattle.std.proofs.lemmas.List.{take_more, take_more_set, drop-set-lt, drop-drop}
-use Rattle.bench.proofs.Keeps.{reached_stands}
+use Rattle.bench.proofs.Keeps.{reached_stands, reached_stood}
 use Rattle.bench.specs.Law.{Start, Stands, Reached, fresh, ticked, did_step, did_run, went_back}
 use Rattle.bench.specs.State.{State}
 use Rattle.session.specs.Lawful.{Lawful, fresh_of}
-use Rattle.session.specs.Lists.{answered, called, answers, played, counted, standing}
+use Rattle.session.specs.Lists.{answered, called, answers, played, counted, standing, taken, NeverShort}
 use Rattle.session.specs.declared.call.Answer.{Answer}
 use Rattle.session.specs.declared.call.Call.{Call}
 use Rattle.session.specs.declared.call.Call.TheVariants as call
@@ -47,6 +47,17 @@ all_reached : (s : Start) (n : ℕ) (t : State) (cs : List Call) → Reached s n
 all_reached s n t [] h = h
 all_reached s n t (c ∷ cs) h = all_reached s (counted n (answered c t)) (called c t) cs (call_reached s n t c h)
 
+call_taken : (s : Start) (n : ℕ) (t : State) (c : Call) → Reached s n t → taken (answered c t) ≤ n
+call_taken s n t call.Tick h = omega arith
+call_taken s n t call.Step h = omega arith
+call_taken s n t (call.Run m) h = omega arith
+call_taken s n t call.Back h = reached_stood s n t h
+call_taken s n t (call.Look at) h = omega arith
+
+never_short : (s : Start) (n : ℕ) (t : State) (cs : List Call) → Reached s n t → NeverShort n (answers t cs)
+never_short s n t [] h = tt
+never_short s n t (c ∷ cs) h = (call_taken s n t c h, never_short s (counted n (answered c t)) (called c t) cs (call_reached s n t c h))
+
 all_stand : (s : Start) (cs : List Call) → Stands s (standing 0 (answers (fresh_of s) cs)) (played (fresh_of s) cs)
 all_stand s cs = reached_stands s _ _ (all_reached s 0 (fresh_of s) cs fresh)
 
@@ -63,6 +74,7 @@ lawful s cs given t u new g l =
     record {
       gave = gave;
       left = left;
+      enough = rw gave (never_short s 0 (fresh_of s) cs fresh);
       each = λ k. rw (gave, ← answers_take k (fresh_of s) cs) (all_stand s (take k cs));
       last = rw (gave, left) (all_stand s cs);
     }

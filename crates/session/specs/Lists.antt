@@ -1,7 +1,7 @@
 -- Lists of calls and of answers.
-use Rattle.std.specs.Prelude.{ℕ, List, [], ◌∷◌}
+use Rattle.std.specs.Prelude.{ℕ, ◌≤◌, List, [], ◌∷◌}
 use Rattle.bench.specs.Calls.{tick_answer, ticked_state, step_answer, stepped_state, run_answer, ran_state, back_answer, back_state}
-use Rattle.bench.specs.Law.{tick_count, step_count, run_count, back_count}
+use Rattle.bench.specs.Law.{tick_count, step_count, run_count, back_count, taken_back}
 use Rattle.bench.specs.Looks.{look_answer}
 use Rattle.bench.specs.State.{State}
 use Rattle.session.specs.declared.call.Answer.{Answer}
@@ -40,6 +40,19 @@ counted n (answer.Stepped r) = step_count n r
 counted n (answer.Ran r) = run_count n r
 counted n (answer.Back r) = back_count n r
 counted n (answer.Looked r) = n
+
+-- how many instructions an answer takes back
+abbrev pub taken : Answer → ℕ
+taken (answer.Ticked r) = 0
+taken (answer.Stepped r) = 0
+taken (answer.Ran r) = 0
+taken (answer.Back r) = taken_back r
+taken (answer.Looked r) = 0
+
+-- no answer takes back more instructions than stand before it, n before the first
+abbrev pub NeverShort : ℕ → List Answer → Type 0
+NeverShort n [] = Unit {0}
+NeverShort n (x ∷ more) = (taken x ≤ n) × NeverShort (counted n x) more
 
 -- the instructions that stand after some answers, of n before them
 abbrev pub standing : ℕ → List Answer → ℕ

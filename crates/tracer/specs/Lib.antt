@@ -1,0 +1,2 @@
+pub mod Trace
+pub mod Steps

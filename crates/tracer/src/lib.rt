@@ -2,9 +2,11 @@
 
 #![tactic(auto)]
 
+mod file;
 mod step;
 mod stop;
 mod whole;
 
+pub use file::{Part, output};
 pub use step::trace_step;
 pub use whole::{last_line, trace};

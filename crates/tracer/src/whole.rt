@@ -59,9 +59,9 @@ fn run_bench<M: WriteMemory>(
     stop_line(bench, refusal).to_string(heap)
 }
 
-#[tactic(auto, using(crate::proofs::New::traced, crate::proofs::New::trace_pc))]
 /// The trace of a new bench over this memory, with these registers, at this PC: a line for each instruction up to the limit or to the
 /// first that is refused, and the line where it stops.
+#[tactic(auto, using(crate::proofs::New::traced, crate::proofs::New::trace_pc))]
 pub fn trace<M: WriteMemory + Drop>(
     heap: Global,
     memory: M,
@@ -74,8 +74,8 @@ pub fn trace<M: WriteMemory + Drop>(
     trace_bench(heap, &mut Bench::new(memory, registers, pc), limit)
 }
 
-#[tactic(auto, using(crate::proofs::New::ran, crate::proofs::New::run_pc))]
 /// The last line of that trace alone, by one run of the bench: a limit above 1,000,000 is refused 7 before the first instruction.
+#[tactic(auto, using(crate::proofs::New::ran, crate::proofs::New::run_pc))]
 pub fn last_line<M: WriteMemory + Drop>(
     heap: Global,
     memory: M,

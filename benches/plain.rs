@@ -173,7 +173,10 @@ fn field(word: u32, low: u32, width: u32) -> u32 {
 }
 
 fn signed(number: u32, width: u32) -> u32 {
-    (number << (32 - width)).cast_signed().wrapping_shr(32 - width).cast_unsigned()
+    (number << (32 - width))
+        .cast_signed()
+        .wrapping_shr(32 - width)
+        .cast_unsigned()
 }
 
 /// What a word does as an instruction.
@@ -185,12 +188,18 @@ fn action_of(word: u32) -> Option<Action> {
     let i = signed(word >> 20, 12);
     let s = signed(field(word, 25, 7) << 5 | field(word, 7, 5), 12);
     let b = signed(
-        field(word, 31, 1) << 12 | field(word, 7, 1) << 11 | field(word, 25, 6) << 5 | field(word, 8, 4) << 1,
+        field(word, 31, 1) << 12
+            | field(word, 7, 1) << 11
+            | field(word, 25, 6) << 5
+            | field(word, 8, 4) << 1,
         13,
     );
     let u = word & 0xffff_f000;
     let j = signed(
-        field(word, 31, 1) << 20 | field(word, 12, 8) << 12 | field(word, 20, 1) << 11 | field(word, 21, 10) << 1,
+        field(word, 31, 1) << 20
+            | field(word, 12, 8) << 12
+            | field(word, 20, 1) << 11
+            | field(word, 21, 10) << 1,
         21,
     );
     let shift = u32::from(rs2);
@@ -408,6 +417,10 @@ impl Core {
 
 /// What an instruction wrote over.
 #[derive(Clone, Copy)]
+#[expect(
+    dead_code,
+    reason = "kept for a way back, which neither side goes here"
+)]
 enum Overwritten {
     Register { number: u8, value: u32 },
     Bytes { word: u32, value: u32, mask: u8 },
@@ -419,6 +432,10 @@ struct Entry {
     address: u32,
     word: u32,
     clocks: u64,
+    #[expect(
+        dead_code,
+        reason = "kept for a way back, which neither side goes here"
+    )]
     overwritten: Option<Overwritten>,
 }
 
@@ -516,7 +533,12 @@ impl Bench {
     /// The same, with a line for each step.
     fn trace(&mut self, limit: u32, text: &mut String) -> Result<(), Refused> {
         for _ in 0..limit {
-            let Entry { address, word, clocks, .. } = self.step()?;
+            let Entry {
+                address,
+                word,
+                clocks,
+                ..
+            } = self.step()?;
             writeln!(text, "{address:08x} {word:08x} {clocks}").unwrap();
         }
         Ok(())
@@ -526,7 +548,10 @@ impl Bench {
 impl fmt::Display for Bench {
     fn fmt(&self, f: &mut fmt::Formatter<'_>) -> fmt::Result {
         let (pc, retired, clocks) = (self.core.pc, self.retired, self.clocks);
-        writeln!(f, " at {pc:08x} after {retired} instructions and {clocks} clocks")
+        writeln!(
+            f,
+            " at {pc:08x} after {retired} instructions and {clocks} clocks"
+        )
     }
 }
 
@@ -562,7 +587,12 @@ fn read(bytes: &[u8]) -> Result<File<'_>, Refused> {
     if limit > 1_000_000 {
         return Err(Refused(7));
     }
-    Ok(File { start, base, limit, image })
+    Ok(File {
+        start,
+        base,
+        limit,
+        image,
+    })
 }
 
 fn output(bytes: &[u8], lines: bool) -> String {

@@ -1,0 +1,4 @@
+pub mod Between
+pub mod Traces
+pub mod Turns
+pub mod New

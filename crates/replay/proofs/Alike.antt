@@ -1,5 +1,5 @@
 -- From the same start, calls and as many steps alone are shown alike.
-use Rattle.std.proofs.Common.{◌≡◌, ℕ, zero, suc, ◌+◌, ◌%◌, ◌^◌, List, [], ◌++◌, min, length, take, sym, refl, ap, ◌∙◌, arith}
+use Rattle.std.proofs.Common.{◌≡◌, ℕ, zero, suc, ◌+◌, ◌%◌, ◌^◌, List, [], ◌∷◌, ◌++◌, min, length, take, drop, sym, refl, ap, ◌∙◌, arith}
 use Rattle.std.proofs.lemmas.List.{take_all}
 use Rattle.arch1.specs.Clock.{idle}
 use Rattle.bench.specs.Law.{Start}
@@ -27,8 +27,16 @@ changed_seen : (k address : ℕ) (t f : State) → changed_in k address t f ≡ 
 changed_seen zero address t f = refl
 changed_seen (suc k) address t f = ap (λ (x : List ℕ). changed_text address t f ++ x) (changed_seen k ((address + 1) % 2 ^ 32) t f)
 
+-- what is shown, by its pieces that are long
+abbrev around : State → List ℕ → List ℕ → List ℕ → List ℕ
+around t registers image bank = registers ++ (look_text look.Pc t ++ (look_text look.Clocks t ++ (look_text look.Retired t ++ (image ++ bank))))
+
+pieces : (t : State) {r r' i i' b b' : List ℕ} → r ≡ r' → i ≡ i' → b ≡ b' → around t r i b ≡ around t r' i' b'
+pieces t p q s = λ k. around t (p k) (q k) (s k)
+
 seen : (image bank : Span) (t f : State) → state_text image bank t f ≡ state_text image bank (of_sight (sight_of t)) f
-seen image bank t f = rw (registers_seen 32 0 t, changed_seen image.length image.from t f, changed_seen bank.length bank.from t f) refl
+seen image bank t f =
+    pieces t (registers_seen 32 0 t) (changed_seen image.length image.from t f) (changed_seen bank.length bank.from t f)
 
 same : (image bank : Span) (t u f : State) → sight_of u ≡ sight_of t → state_text image bank u f ≡ state_text image bank t f
 same image bank t u f e = seen image bank u f ∙ ap (λ (w : Sight). state_text image bank (of_sight w) f) e ∙ sym (seen image bank t f)
@@ -52,3 +60,12 @@ every s z cs watched made places was given n t u w m same_length kept is law =
     let calls : take made watched ≡ with_looks cs = take_all made watched (omega (arith, m, same_length)) ∙ w in
     let answers : take made places ≡ given = take_all made places (omega (arith, m, same_length, kept)) ∙ sym is in
     rw (calls, answers) at law
+
+front : (ps xs : List Answer) → take (length ps) (ps ++ xs) ≡ ps
+front [] [] = refl
+front [] (x ∷ xs) = refl
+front (p ∷ ps) xs = ap (λ (r : List Answer). p ∷ r) (front ps xs)
+
+-- all the places of a vector were lent, and come back
+pub lent_whole : (size : ℕ) (places was given : List Answer) → size ≡ length places → given ≡ take size (places ++ drop (length places) was) → given ≡ places
+lent_whole size places was given e is = is ∙ ap (λ (n : ℕ). take n (places ++ drop (length places) was)) e ∙ front places _

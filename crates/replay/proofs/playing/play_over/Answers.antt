@@ -1,8 +1,8 @@
-use Rattle.std.proofs.Common.{◌≡◌, length, string_bytes, rules, arith}
+use Rattle.std.proofs.Common.{◌≡◌, string_bytes, rules}
 use Rattle.std.proofs.lemmas.Result.{IfOk-weaker}
 use Rattle.bench.specs.Law.{start_over}
 use Rattle.bench.specs.State.{state_of}
-use Rattle.replay.proofs.Alike.{every, tells}
+use Rattle.replay.proofs.Alike.{every, tells, lent_whole}
 use Rattle.replay.specs.States.{state_text}
 use Rattle.replay.specs.Tells.{Tells, cleared}
 use Rattle.replay.specs.Whole.{whole_text}
@@ -23,6 +23,15 @@ returns g c =
     let image = c.args.spans.image in
     let bank = c.args.spans.bank in
     let given = c.deref-2.result.now in
-    let law = every s twin c.args.calls.now _ made.result.made made.new.places _ given made.result.standing t u ? ? ? ? ? ? in
+    let watched = c.in_ok-watched.watched.items in
+    let was = c.in_ok-answers.answers.items in
+    let law =
+        every s twin c.args.calls.now watched made.result.made made.new.places was given made.result.standing t u
+        c.in_ok-watched.ensures
+        (search rules)
+        (search rules)
+        (search rules)
+        (lent_whole _ _ was given (search rules) c.deref-2.ensures.value)
+        (rw (c.new-zero.ensures, c.deref.ensures.value) at made.ensures.law) in
     IfOk-weaker c.whole.result (λ x. string_bytes x ≡ whole_text c.args.calls.now given made.result.standing (state_text image bank t f) (state_text image bank u f))
-    (λ x. Tells s twin start image bank c.args.calls.now (string_bytes x)) (λ x e. tells s twin start image bank c.args.calls.now given made.result.standing t u f (string_bytes x) law ? e) c.whole.ensures
+    (λ x. Tells s twin start image bank c.args.calls.now (string_bytes x)) (λ x e. tells s twin start image bank c.args.calls.now given made.result.standing t u f (string_bytes x) law (search rules) e) c.whole.ensures

@@ -2,6 +2,7 @@
 use Rattle.std.specs.Prelude.{◌≡◌, ℕ, ◌-◌, ◌*◌, ◌/◌, ◌%◌, ◌^◌, min, List, length, replicate, Ok, Err, Result}
 use Rattle.bench.specs.Law.{Start}
 use Rattle.benchfile.specs.Format.{Contents}
+use Rattle.benchfile.specs.declared.file.BenchFile.{BenchFile}
 use Rattle.benchfile.specs.Refusals.{number_of}
 use Rattle.benchfile.specs.declared.refusals.Refusal.{Refusal}
 use Rattle.machine.specs.Machine.{Arch}
@@ -16,6 +17,10 @@ use Rattle.setup.specs.Map.{bank_from, bank_length, map_kinds, map_words}
 use Rattle.setup.specs.declared.options.Options.{Options}
 use Rattle.stores.specs.Bank.{bank_kind, bank_word}
 use Rattle.stores.specs.Layout.{kind_in_layout, word_in}
+
+-- what a file that was read says
+abbrev pub contents_in : BenchFile → Contents
+contents_in f = record { start = f.start; base = f.base; limit = f.limit; image = f.image.now }
 
 -- the bytes of the image that show, and those of the bank
 abbrev pub image_span : Options → ℕ → ℕ → Span
@@ -44,15 +49,23 @@ pub record StartsAt (o : Options) (file : Contents) (s : Start) : Type 0 where
   pub kinds : s.kinds ≡ kinds_at o file
   pub arch : s.arch ≡ arch_at o file
 
--- the text tells of the calls, each with looks after it, and of the state that they led to: as many steps alone lead to one that is shown alike
+-- calls on a bench of s, and as many steps alone on one of z, with what has changed since a start from the file
+pub record PlaysOver (o : Options) (file : Contents) (s z : Start) (cs : List Call) (text : List ℕ) : Type 0 where
+  pub fresh : Start
+  pub unchanged : StartsAt o file fresh
+  pub tells : Tells s z fresh (image_span o file.base (length file.image)) (bank_span o) cs text
+
+-- the same, the steps on a bench of the file
+pub record PlaysOn (o : Options) (file : Contents) (s : Start) (cs : List Call) (text : List ℕ) : Type 0 where
+  pub twin : Start
+  pub there : StartsAt o file twin
+  pub plays : PlaysOver o file s twin cs text
+
+-- the same, the calls on another bench of the file
 pub record Plays (o : Options) (file : Contents) (cs : List Call) (text : List ℕ) : Type 0 where
   pub start : Start
-  pub twin : Start
-  pub fresh : Start
   pub here : StartsAt o file start
-  pub there : StartsAt o file twin
-  pub unchanged : StartsAt o file fresh
-  pub tells : Tells start twin fresh (image_span o file.base (length file.image)) (bank_span o) cs text
+  pub plays : PlaysOn o file start cs text
 
 -- what is printed for what a file and a script say
 abbrev pub Prints : Options → Result Contents Refusal → Result (List Call) ℕ → List ℕ → Type 0

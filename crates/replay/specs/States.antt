@@ -1,5 +1,5 @@
 -- What is shown of a bench between instructions: the registers, PC, both counters, and the bytes that have changed.
-use Rattle.std.specs.Prelude.{ℕ, zero, suc, ◌+◌, ◌%◌, ◌^◌, cond, List, [], ◌∷◌, ◌++◌, Ok, Err, Result, ◌==◌}
+use Rattle.std.specs.Prelude.{ℕ, zero, suc, ◌+◌, ◌%◌, ◌^◌, cond, List, [], ◌++◌, Ok, Result, ◌==◌}
 use Rattle.bench.specs.Looks.{look_answer, byte_answer}
 use Rattle.bench.specs.State.{State}
 use Rattle.bench.specs.declared.look.Look.{Look}

@@ -1,14 +1,16 @@
-ghost use Rattle.std.specs.Prelude.{◌≡◌, length, IfOk, Ok, string_bytes};
+ghost use Rattle.std.specs.Prelude.{◌≡◌, length, IfOk, string_bytes};
 ghost use Rattle.benchfile.specs.Format.{file_of};
-ghost use Rattle.benchfile.specs.Views.{file_read};
+ghost use Rattle.bench.specs.Law.{start_over};
+ghost use Rattle.replay.specs.Tells.{cleared};
 ghost use Rattle.script.specs.Script.{script};
-ghost use Rattle.replay.specs.Plays.{image_span, bank_span, Prints};
+ghost use Rattle.replay.specs.Plays.{contents_in, image_span, bank_span, PlaysOver, PlaysOn, Plays, Prints};
 
 use super::lines::NoCommandLine;
-use super::states::Span;
 use super::playing::play_over;
+use super::states::Span;
 use super::whole::Spans;
 use benchfile::BenchFile;
+use memory::WriteMemory;
 use report::RefusedLine;
 use script::{ScriptFault, read_script};
 use session::Call;
@@ -35,33 +37,65 @@ fn spans(file: BenchFile<'_>, options: Options) -> Spans
     }
 }
 
-// Plays calls over the image of a file, each with looks after it, and tells all of it.
+// Plays calls over a memory and its twin, and tells what has changed since a start from the file.
+fn play_over_file<M: WriteMemory + Drop, S: WriteMemory + Drop>(
+    heap: Global,
+    file: BenchFile<'_>,
+    options: Options,
+    calls: &[Call],
+    memory: M,
+    twin: S,
+) -> Result<String, AllocError>
+    ensures { IfOk result (λ s. PlaysOver options (contents_in file.entry) (start_over M.ReadMemory memory cleared file.entry.start) (start_over S.ReadMemory twin cleared file.entry.start) calls.now (string_bytes s)) }
+{
+    let mut image = file.image.to_vec(heap)?;
+    let mut bank = vec![in heap; 0u32; options.bank_words() as usize]?;
+    let fresh = options.map(
+        file.base / 4,
+        ByteImage::new(image.as_mut_slice()),
+        WordBank::new(bank.as_mut_slice()),
+    );
+    let spans = spans(file, options);
+    play_over(heap, calls, file.start, memory, twin, fresh, spans)
+}
+
+// The same, the steps alone on a bench of the file.
+fn play_on<M: WriteMemory + Drop>(
+    heap: Global,
+    file: BenchFile<'_>,
+    options: Options,
+    calls: &[Call],
+    memory: M,
+) -> Result<String, AllocError>
+    ensures { IfOk result (λ s. PlaysOn options (contents_in file.entry) (start_over M.ReadMemory memory cleared file.entry.start) calls.now (string_bytes s)) }
+{
+    let mut image = file.image.to_vec(heap)?;
+    let mut bank = vec![in heap; 0u32; options.bank_words() as usize]?;
+    let twin = options.map(
+        file.base / 4,
+        ByteImage::new(image.as_mut_slice()),
+        WordBank::new(bank.as_mut_slice()),
+    );
+    play_over_file(heap, file, options, calls, memory, twin)
+}
+
+// The same, the calls on another bench of the file. Each of the three memories has a function of its own, which keeps its proof short.
 fn play(
     heap: Global,
     file: BenchFile<'_>,
     options: Options,
     calls: &[Call],
 ) -> Result<String, AllocError>
-    ensures { IfOk result (λ s. Prints options (file_read (Ok file.entry)) (Ok calls.now) (string_bytes s)) }
+    ensures { IfOk result (λ s. Plays options (contents_in file.entry) calls.now (string_bytes s)) }
 {
-    // Three memories of the same meaning: for the calls, for the steps alone, and one that nothing changes.
-    let base = file.base / 4;
-    let words = options.bank_words() as usize;
     let mut image = file.image.to_vec(heap)?;
-    let mut bank = vec![in heap; 0u32; words]?;
-    let mut twin_image = file.image.to_vec(heap)?;
-    let mut twin_bank = vec![in heap; 0u32; words]?;
-    let mut fresh_image = file.image.to_vec(heap)?;
-    let mut fresh_bank = vec![in heap; 0u32; words]?;
-    play_over(
-        heap,
-        calls,
-        file.start,
-        options.map(base, ByteImage::new(image.as_mut_slice()), WordBank::new(bank.as_mut_slice())),
-        options.map(base, ByteImage::new(twin_image.as_mut_slice()), WordBank::new(twin_bank.as_mut_slice())),
-        options.map(base, ByteImage::new(fresh_image.as_mut_slice()), WordBank::new(fresh_bank.as_mut_slice())),
-        spans(file, options),
-    )
+    let mut bank = vec![in heap; 0u32; options.bank_words() as usize]?;
+    let memory = options.map(
+        file.base / 4,
+        ByteImage::new(image.as_mut_slice()),
+        WordBank::new(bank.as_mut_slice()),
+    );
+    play_on(heap, file, options, calls, memory)
 }
 
 /// All that the program prints for a bench file, options and a script: the calls with their answers and both states, or the line of the

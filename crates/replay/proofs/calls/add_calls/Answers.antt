@@ -1,4 +1,4 @@
-use Rattle.std.proofs.Common.{◌≡◌, ap, ◌∙◌, ◌++◌, List, ℕ, sym, string_bytes, arith, ltb-true, ltb-false}
+use Rattle.std.proofs.Common.{ap, ◌∙◌, ◌++◌, List, ℕ, sym, string_bytes, arith, ltb-true, ltb-false}
 use Rattle.replay.proofs.Growing.{ended}
 use Rattle.replay.proofs.Telling.{one_more, no_call, no_answers, smaller}
 use Rattle.replay.proofs.calls.add_calls.Goals as goal

@@ -26,12 +26,12 @@ returns g c =
     let watched = c.in_ok-watched.watched.items in
     let was = c.in_ok-answers.answers.items in
     let law =
-        every s twin c.args.calls.now watched made.result.made made.new.places was given made.result.standing t u
-        c.in_ok-watched.ensures
-        (search rules)
-        (search rules)
-        (search rules)
-        (lent_whole _ _ was given (search rules) c.deref-2.ensures.value)
-        (rw (c.new-zero.ensures, c.deref.ensures.value) at made.ensures.law) in
+    every s twin c.args.calls.now watched made.result.made made.new.places was given made.result.standing t u
+    c.in_ok-watched.ensures
+    (search rules)
+    (search rules)
+    (search rules)
+    (lent_whole _ _ was given (search rules) c.deref-2.ensures.value)
+    (rw (c.new-zero.ensures, c.deref.ensures.value) at made.ensures.law) in
     IfOk-weaker c.whole.result (λ x. string_bytes x ≡ whole_text c.args.calls.now given made.result.standing (state_text image bank t f) (state_text image bank u f))
     (λ x. Tells s twin start image bank c.args.calls.now (string_bytes x)) (λ x e. tells s twin start image bank c.args.calls.now given made.result.standing t u f (string_bytes x) law (search rules) e) c.whole.ensures

@@ -1,4 +1,4 @@
-ghost use Rattle.std.specs.Prelude.{◌≡◌, ◌==◌, [], position, MatchOption};
+ghost use Rattle.std.specs.Prelude.{◌≡◌, ◌<◌, ◌==◌, [], length, position, MatchOption};
 ghost use Rattle.commands.specs.Lines.{first_line, after_first_line, without_return};
 
 // Where the first byte 10 is.
@@ -18,7 +18,7 @@ fn without_return(line: &[u8]) -> &[u8]
 /// The first line of a text, without its ending, and the text after it; none of an empty text. A line ends in byte 10 or at the end of
 /// the text, and one byte 13 directly before that byte 10 belongs to the ending.
 pub fn split_line(text: &[u8]) -> Option<(&[u8], &[u8])>
-    ensures { MatchOption result (text.now ≡ []) (λ parts. (parts.0.now ≡ first_line text.now) × (parts.1.now ≡ after_first_line text.now)) }
+    ensures { MatchOption result (text.now ≡ []) (λ parts. (0 < length text.now) × (parts.0.now ≡ first_line text.now) × (parts.1.now ≡ after_first_line text.now)) }
 {
     if text.is_empty() {
         return None;

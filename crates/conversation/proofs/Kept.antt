@@ -4,13 +4,10 @@ use Rattle.bench.proofs.Keeps.{reached_stands}
 use Rattle.bench.specs.Law.{Start, Reached, Kept, ticked, did_step, did_run, went_back}
 use Rattle.bench.specs.State.{State}
 use Rattle.commands.specs.Reading.{line_of}
-use Rattle.commands.specs.declared.command.Command.{Command}
 use Rattle.commands.specs.declared.command.Command.TheVariants as command
 use Rattle.commands.specs.declared.command.Line.{Line}
 use Rattle.commands.specs.declared.command.Line.TheVariants as line
 use Rattle.conversation.specs.Replies.{after_line, line_count, state_after, LineKept}
-use Rattle.session.specs.Lists.{answered, called, counted}
-use Rattle.session.specs.declared.call.Call.{Call}
 use Rattle.session.specs.declared.call.Call.TheVariants as call
 
 line_reached : (l : Line) (s : Start) (n : ℕ) (t : State) → Reached s n t → Reached s (line_count l t n) (after_line l t)

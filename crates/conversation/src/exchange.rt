@@ -1,3 +1,8 @@
+ghost use Rattle.std.specs.Prelude.{◌≡◌, IfOk, OnOk, IfSome};
+ghost use Rattle.std.specs.Io.KnownBytes.{Appends};
+ghost use Rattle.bench.specs.State.{state_of};
+ghost use Rattle.conversation.specs.Conversations.{lines, conversation, led_to, Turn};
+
 use super::reply::reply_to;
 use bench::Bench;
 use commands::split_line;
@@ -6,25 +11,42 @@ use std::alloc::Global;
 use std::io;
 use std::io::{BufRead, Write};
 
-/// Reads lines and answers each at once, up to one that ends the conversation or to the end of the input.
+// Reads a line and answers it at once. False where the conversation ends: the line says so, or there is none.
+fn turn<M: WriteMemory, R: BufRead, W: Write>(
+    heap: Global,
+    bench: &mut Bench<M>,
+    input: &mut R,
+    output: &mut W,
+) -> io::Result<bool>
+    ensures { IfOk result (λ more. IfSome (R.Read.remaining input.old) (λ bytes. Turn more (state_of M.ReadMemory bench.old) (state_of M.ReadMemory bench.new) bytes (R.Read.remaining input.new) (W.contents output.old) (W.contents output.new))) }
+{
+    let mut raw = Vec::new(heap);
+    input.read_until(b'\n', &mut raw)?;
+    let Some((line, _)) = split_line(&raw) else {
+        return Ok(false);
+    };
+    let Some(answer) = reply_to(heap, bench, line)? else {
+        return Ok(false);
+    };
+    output.write_all(&answer)?;
+    output.flush()?;
+    Ok(true)
+}
+
+/// Reads lines and answers each at once, up to one that ends the conversation or to the end of the input. After 2^64 - 1 lines it gives up.
 pub fn converse<M: WriteMemory, R: BufRead, W: Write>(
     heap: Global,
     bench: &mut Bench<M>,
     input: &mut R,
     output: &mut W,
-) -> io::Result<()> {
-    let mut raw = Vec::new(heap);
+) -> io::Result<()>
+    ensures sent { OnOk result (IfSome (R.Read.remaining input.old) (λ bytes. Appends (W.contents output.old) (W.contents output.new) (conversation (state_of M.ReadMemory bench.old) (lines bytes)))) }
+    ensures led { OnOk result (IfSome (R.Read.remaining input.old) (λ bytes. state_of M.ReadMemory bench.new ≡ led_to (state_of M.ReadMemory bench.old) (lines bytes))) }
+{
     for _ in 0..u64::MAX {
-        raw.clear();
-        input.read_until(b'\n', &mut raw)?;
-        let Some((line, _)) = split_line(&raw) else {
-            break;
-        };
-        let Some(answer) = reply_to(heap, bench, line)? else {
-            break;
-        };
-        output.write_all(&answer)?;
-        output.flush()?;
+        if !turn(heap, bench, input, output)? {
+            return Ok(());
+        }
     }
-    Ok(())
+    Err(io::Error::from(io::ErrorKind::Other))
 }

@@ -1,3 +1,8 @@
+ghost use Rattle.std.specs.Prelude.{Ok, OnOk};
+ghost use Rattle.benchfile.specs.Format.{file_of};
+ghost use Rattle.benchfile.specs.Views.{file_read};
+ghost use Rattle.conversation.specs.Files.{SentOver};
+
 use super::exchange::converse;
 use bench::Bench;
 use benchfile::BenchFile;
@@ -16,7 +21,9 @@ fn open<R: BufRead, W: Write>(
     options: Options,
     input: &mut R,
     output: &mut W,
-) -> io::Result<()> {
+) -> io::Result<()>
+    ensures { OnOk result (SentOver (file_read (Ok file.entry)) options (R.Read.remaining input.old) (W.contents output.old) (W.contents output.new)) }
+{
     // The image as bytes of its own, which calls may write.
     let mut image = file.image.to_vec(heap)?;
     let mut bank = vec![in heap; 0u32; options.bank_words() as usize]?;
@@ -36,7 +43,9 @@ pub fn converse_over<R: BufRead, W: Write>(
     options: Options,
     input: &mut R,
     output: &mut W,
-) -> io::Result<()> {
+) -> io::Result<()>
+    ensures { OnOk result (SentOver (file_of bytes.now) options (R.Read.remaining input.old) (W.contents output.old) (W.contents output.new)) }
+{
     match benchfile::read(bytes) {
         Ok(file) => open(heap, file, options, input, output),
         Err(refusal) => {

@@ -1,0 +1,126 @@
+-- The turns of a conversation.
+use Rattle.std.proofs.Common.{◌≡◌, ◌∙◌, sym, ap, refl, ℕ, ◌<◌, Bool, true, false, List, [], ◌∷◌, ◌++◌, length, append_assoc, append-nil, Some, None, Option}
+use Rattle.std.specs.Prelude.{IfSome}
+use Rattle.std.specs.Io.BufRead.{take_through, drop_through}
+use Rattle.std.specs.Io.KnownBytes.{Keeps, Appends}
+use Rattle.bench.specs.State.{State}
+use Rattle.commands.specs.Lines.{first_line}
+use Rattle.conversation.specs.Conversations.{lines, lines_of_first, conversation, led_to, followed, led, Turn}
+use Rattle.conversation.specs.Replies.{reply, state_after}
+use Rattle.conversation.proofs.Lines.{lines_read, nothing_read}
+
+says_line : (s : State) (l : List ℕ) (ls : List (List ℕ)) → conversation s (l ∷ ls) ≡ followed (reply l s) (conversation (state_after l s) ls)
+unfolding conversation
+says_line s l ls = refl
+
+leads_line : (s : State) (l : List ℕ) (ls : List (List ℕ)) → led_to s (l ∷ ls) ≡ led (reply l s) (state_after l s) (led_to (state_after l s) ls)
+unfolding led_to
+leads_line s l ls = refl
+
+no_lines_said : (s : State) → conversation s (lines []) ≡ []
+unfolding conversation lines_of_first
+no_lines_said s = refl
+
+no_lines_led : (s : State) → led_to s (lines []) ≡ s
+unfolding led_to lines_of_first
+no_lines_led s = refl
+
+kept : (before : Option (List ℕ)) → Appends before before []
+kept None = tt
+kept (Some xs) = sym (append-nil xs)
+
+flushed : (before written after : Option (List ℕ)) (sent : List ℕ) → Appends before written sent → Keeps written after → Appends before after sent
+flushed None written after sent a k = tt
+flushed (Some xs) None after sent a k = absurd a
+flushed (Some xs) (Some ys) None sent a k = absurd k
+flushed (Some xs) (Some ys) (Some zs) sent a k = k ∙ a
+
+-- nothing was left to read
+pub ended : (s : State) (bytes raw : List ℕ) (left before : Option (List ℕ)) → raw ≡ take_through 10 bytes → raw ≡ [] → Turn false s s bytes left before before
+ended s bytes raw left before h none =
+    let empty : bytes ≡ [] = nothing_read bytes (sym none ∙ h) in
+    record {
+      rest = [];
+      sent = [];
+      reads = λ e. cc;
+      wrote = kept before;
+      says = ap (λ (b : List ℕ). conversation s (lines b)) empty ∙ no_lines_said s;
+      leads = ap (λ (b : List ℕ). led_to s (lines b)) empty ∙ no_lines_led s;
+    }
+
+pub turn_ended : (given left before : Option (List ℕ)) (s : State) (old raw : List ℕ) → old ≡ [] → IfSome given (λ xs. raw ≡ old ++ take_through 10 xs) → raw ≡ [] → IfSome given (λ bytes. Turn false s s bytes left before before)
+turn_ended None left before s old raw new read none = tt
+turn_ended (Some bytes) left before s old raw new read none = ended s bytes raw left before (read ∙ ap (λ (o : List ℕ). o ++ take_through 10 bytes) new) none
+
+-- what a line says, and what it leads to, by the answer to it
+said : (s : State) (bytes raw line : List ℕ) (answer : Option (List ℕ)) → raw ≡ take_through 10 bytes → 0 < length raw → line ≡ first_line raw → answer ≡ reply line s →
+    conversation s (lines bytes) ≡ followed answer (conversation (state_after line s) (lines (drop_through 10 bytes)))
+said s bytes raw line answer read some first told =
+    ap (conversation s) (lines_read bytes raw read some)
+    ∙ ap (λ (l : List ℕ). conversation s (l ∷ lines (drop_through 10 bytes))) (sym first)
+    ∙ says_line s line (lines (drop_through 10 bytes))
+    ∙ ap (λ (a : Option (List ℕ)). followed a (conversation (state_after line s) (lines (drop_through 10 bytes)))) (sym told)
+
+led_on : (s : State) (bytes raw line : List ℕ) (answer : Option (List ℕ)) → raw ≡ take_through 10 bytes → 0 < length raw → line ≡ first_line raw → answer ≡ reply line s →
+    led_to s (lines bytes) ≡ led answer (state_after line s) (led_to (state_after line s) (lines (drop_through 10 bytes)))
+led_on s bytes raw line answer read some first told =
+    ap (led_to s) (lines_read bytes raw read some)
+    ∙ ap (λ (l : List ℕ). led_to s (l ∷ lines (drop_through 10 bytes))) (sym first)
+    ∙ leads_line s line (lines (drop_through 10 bytes))
+    ∙ ap (λ (a : Option (List ℕ)). led a (state_after line s) (led_to (state_after line s) (lines (drop_through 10 bytes)))) (sym told)
+
+pub turn_quit : (given left before : Option (List ℕ)) (s t : State) (old raw line : List ℕ) → old ≡ [] → IfSome given (λ xs. raw ≡ old ++ take_through 10 xs) → 0 < length raw → line ≡ first_line raw →
+    None ≡ reply line s → t ≡ state_after line s → IfSome given (λ bytes. Turn false s t bytes left before before)
+turn_quit None left before s t old raw line new read some first told after = tt
+turn_quit (Some bytes) left before s t old raw line new read some first told after =
+    let all : raw ≡ take_through 10 bytes = read ∙ ap (λ (o : List ℕ). o ++ take_through 10 bytes) new in
+    record {
+      rest = [];
+      sent = [];
+      reads = λ e. cc;
+      wrote = kept before;
+      says = said s bytes raw line None all some first told;
+      leads = led_on s bytes raw line None all some first told ∙ sym after;
+    }
+
+pub turn_answered : (given left before written after : Option (List ℕ)) (s t : State) (old raw line answer : List ℕ) → old ≡ [] → IfSome given (λ xs. raw ≡ old ++ take_through 10 xs) →
+    IfSome given (λ xs. left ≡ Some (drop_through 10 xs)) → 0 < length raw → line ≡ first_line raw →
+    Some answer ≡ reply line s → t ≡ state_after line s → Appends before written answer → Keeps written after → IfSome given (λ bytes. Turn true s t bytes left before after)
+turn_answered None left before written after s t old raw line answer new read drops some first told moved wrote flush = tt
+turn_answered (Some bytes) left before written after s t old raw line answer new read drops some first told moved wrote flush =
+    let all : raw ≡ take_through 10 bytes = read ∙ ap (λ (o : List ℕ). o ++ take_through 10 bytes) new in
+    record {
+      rest = drop_through 10 bytes;
+      sent = answer;
+      reads = λ e. drops;
+      wrote = flushed before written after answer wrote flush;
+      says = said s bytes raw line (Some answer) all some first told ∙ ap (λ (u : State). answer ++ conversation u (lines (drop_through 10 bytes))) (sym moved);
+      leads = led_on s bytes raw line (Some answer) all some first told ∙ ap (λ (u : State). led_to u (lines (drop_through 10 bytes))) (sym moved);
+    }
+
+appended : (before middle after : Option (List ℕ)) (a b : List ℕ) → Appends before middle a → Appends middle after b → Appends before after (a ++ b)
+appended None middle after a b x y = tt
+appended (Some xs) None after a b x y = absurd x
+appended (Some xs) (Some ys) None a b x y = absurd y
+appended (Some xs) (Some ys) (Some zs) a b x y = y ∙ ap (λ (t : List ℕ). t ++ b) x ∙ append_assoc xs a b
+
+-- some turns and one more
+pub turned : (more : Bool) (given middle left before written after : Option (List ℕ)) (s t u : State) → IfSome given (λ bytes. Turn true s t bytes middle before written) →
+    IfSome middle (λ bytes. Turn more t u bytes left written after) → IfSome given (λ bytes. Turn more s u bytes left before after)
+turned more None middle left before written after s t u one other = tt
+turned more (Some bytes) None left before written after s t u one other = absurd (let h = one.reads refl in cc)
+turned more (Some bytes) (Some rest) left before written after s t u one other =
+    let same : rest ≡ one.rest = let h = one.reads refl in cc in
+    record {
+      rest = other.rest;
+      sent = one.sent ++ other.sent;
+      reads = other.reads;
+      wrote = appended before written after one.sent other.sent one.wrote other.wrote;
+      says = one.says ∙ ap (λ (b : List ℕ). one.sent ++ conversation t (lines b)) (sym same) ∙ ap (λ (x : List ℕ). one.sent ++ x) other.says ∙ sym (append_assoc one.sent other.sent _);
+      leads = one.leads ∙ ap (λ (b : List ℕ). led_to t (lines b)) (sym same) ∙ other.leads;
+    }
+
+-- none yet
+pub begun : (given before : Option (List ℕ)) (s : State) → IfSome given (λ bytes. Turn true s s bytes given before before)
+begun None before s = tt
+begun (Some bytes) before s = record { rest = bytes; sent = []; reads = λ e. refl; wrote = kept before; says = refl; leads = refl }

@@ -1,0 +1,44 @@
+-- A conversation: the lines of a text answered one after another, up to one that ends it.
+use Rattle.std.specs.Prelude.{◌≡◌, ℕ, zero, suc, Bool, true, if◌then◌else◌, List, [], ◌∷◌, ◌++◌, length, Some, None, Option}
+use Rattle.std.specs.Io.KnownBytes.{Appends}
+use Rattle.bench.specs.State.{State}
+use Rattle.commands.specs.Lines.{first_line, after_first_line}
+use Rattle.conversation.specs.Replies.{reply, state_after}
+
+-- the first n lines of a text, or as many as it has
+unfoldable pub lines_of_first : ℕ → List ℕ → List (List ℕ)
+lines_of_first zero text = []
+lines_of_first (suc n) [] = []
+lines_of_first (suc n) (c ∷ cs) = first_line (c ∷ cs) ∷ lines_of_first n (after_first_line (c ∷ cs))
+
+-- the lines of a text: it has no more of them than bytes
+abbrev pub lines : List ℕ → List (List ℕ)
+lines text = lines_of_first (length text) text
+
+-- an answer, and what follows unless it ends the conversation
+abbrev pub followed : Option (List ℕ) → List ℕ → List ℕ
+followed None more = []
+followed (Some bytes) more = bytes ++ more
+
+-- what is sent for the lines, from a bench in this state
+unfoldable pub conversation : State → List (List ℕ) → List ℕ
+conversation s [] = []
+conversation s (l ∷ ls) = followed (reply l s) (conversation (state_after l s) ls)
+
+-- where the bench is after them
+abbrev pub led : Option (List ℕ) → State → State → State
+led None now later = now
+led (Some bytes) now later = later
+
+unfoldable pub led_to : State → List (List ℕ) → State
+led_to s [] = s
+led_to s (l ∷ ls) = led (reply l s) (state_after l s) (led_to (state_after l s) ls)
+
+-- after one turn or some: of the bytes that were to be read, what was sent, and what is left of the conversation if it goes on
+pub record Turn (more : Bool) (s t : State) (bytes : List ℕ) (left before after : Option (List ℕ)) : Type 0 where
+  pub rest : List ℕ
+  pub sent : List ℕ
+  pub reads : more ≡ true → left ≡ Some rest
+  pub wrote : Appends before after sent
+  pub says : conversation s (lines bytes) ≡ sent ++ (if more then conversation t (lines rest) else [])
+  pub leads : led_to s (lines bytes) ≡ (if more then led_to t (lines rest) else t)

@@ -2,12 +2,9 @@
 
 #![tactic(auto)]
 
-mod lines;
-
 use benchfile::read_input;
 use conversation::converse_over;
-use lines::{UnreadableLine, UsageLine};
-use setup::read_arguments;
+use setup::{UnreadableLine, UsageLine, read_arguments};
 use std::io::BufReader;
 use std::{env, fs, io};
 
@@ -28,7 +25,7 @@ fn main(rt: HostRuntime) -> io::Result<()> {
         words.push(text.as_str())?;
     }
     let Some(arguments) = read_arguments(&words) else {
-        return rt.print(UsageLine);
+        return rt.print(UsageLine("console"));
     };
     let Ok(bytes) = read_file(&rt, arguments.file) else {
         return rt.print(UnreadableLine(arguments.file));

@@ -9,8 +9,36 @@ mod playing;
 mod states;
 mod whole;
 
-use std::io;
+use benchfile::read_input;
+use output::output;
+use setup::{UnreadableLine, UsageLine, read_arguments};
+use std::io::{Read, Write};
+use std::{env, fs, io};
+
+// The bytes of a file, as many as decide what it is.
+fn read_file(rt: &HostRuntime, path: &str) -> io::Result<Vec<u8>> {
+    read_input(rt.alloc(), fs::open(rt, path)?)
+}
 
 fn main(rt: HostRuntime) -> io::Result<()> {
-    Ok(())
+    let all = env::args(&rt)?;
+    let mut texts = Vec::new(rt.alloc());
+    for text in all {
+        texts.push(text)?;
+    }
+    let mut words = Vec::new(rt.alloc());
+    // The first is the program's own name.
+    for text in texts.iter().skip(1) {
+        words.push(text.as_str())?;
+    }
+    let Some(arguments) = read_arguments(&words) else {
+        return rt.print(UsageLine("replay"));
+    };
+    let Ok(bytes) = read_file(&rt, arguments.file) else {
+        return rt.print(UnreadableLine(arguments.file));
+    };
+    let mut script = Vec::new(rt.alloc());
+    rt.stdin().read_to_end(&mut script)?;
+    let text = output(rt.alloc(), &bytes, arguments.options, &script)?;
+    rt.stdout().write_all(text.as_bytes())
 }

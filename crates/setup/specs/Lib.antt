@@ -1,3 +1,4 @@
 pub mod Options
 pub mod Map
 pub mod Views
+pub mod Lines

@@ -2,8 +2,10 @@
 
 #![tactic(auto)]
 
+mod lines;
 mod memory_map;
 mod options;
 
+pub use lines::{UnreadableLine, UsageLine};
 pub use memory_map::Map;
 pub use options::{Arguments, Options, Ram, WordRange, read_arguments, read_options};

@@ -47,9 +47,9 @@ before-before : (cs ds : List Call) (r : Result (List Call) ℕ) → before cs (
 before-before cs ds (Ok es) = ap Ok (sym (append_assoc cs ds es))
 before-before cs ds (Err n) = refl
 
-pub none-before : (r : Result (List Call) ℕ) → before [] r ≡ r
-none-before (Ok cs) = refl
-none-before (Err n) = refl
+pub none_before : (r : Result (List Call) ℕ) → before [] r ≡ r
+none_before (Ok cs) = refl
+none_before (Err n) = refl
 
 not_empty : (text : List ℕ) → false ≡ (length text == 0) → 0 < length text
 not_empty [] some = cc

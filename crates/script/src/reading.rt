@@ -1,5 +1,5 @@
 ghost use Rattle.std.specs.Prelude.{IfOk, IfErr, Ok, Err, Some, None, MatchOption, ◌≡◌};
-ghost use Rattle.script.specs.Script.{said, script, FaultOf};
+ghost use Rattle.script.specs.Script.{said, before, script, FaultOf};
 ghost use Rattle.script.specs.declared.fault.ScriptFault.TheVariants.{NoCommand};
 
 use super::fault::ScriptFault;
@@ -37,16 +37,15 @@ fn said(line: &Line, number: usize) -> Result<Option<&[Call]>, ScriptFault>
     }
 }
 
-/// The calls of a script: one command a line, up to `quit` or the end. An empty line says nothing; `show` is the ten looks at what it shows.
-/// Refused with the number of the first line that is no command; what follows a `quit` is not read.
+// Adds the calls of a script, up to `quit` or the end.
 #[tactic(auto, using(crate::proofs::Lines::reading))]
-pub fn read_script(heap: Global, text: &[u8]) -> Result<Vec<Call>, ScriptFault>
-    ensures calls { IfOk result (λ calls. script text.now ≡ Ok calls.items) }
-    ensures fault { IfErr result (λ fault. FaultOf (script text.now) fault) }
+fn add_script(calls: &mut Vec<Call>, text: &[u8]) -> Result<(), ScriptFault>
+    ensures calls { IfOk result (λ _. before calls.old.items (script text.now) ≡ Ok calls.new.items) }
+    ensures fault { IfErr result (λ fault. FaultOf (before calls.old.items (script text.now)) fault) }
 {
-    let mut calls = Vec::new(heap);
     let mut line = 0;
     let mut rest = text;
+    // Asked for by itself: the contract of `split_line` does not say that it finds no line in an empty text.
     while !rest.is_empty()
         && let Some((first, after)) = split_line(rest)
     {
@@ -54,9 +53,21 @@ pub fn read_script(heap: Global, text: &[u8]) -> Result<Vec<Call>, ScriptFault>
         let command = read_line(first);
         match said(&command, line)? {
             Some(more) => calls.extend_from_slice(more)?,
-            None => return Ok(calls),
+            None => return Ok(()),
         }
         rest = after;
     }
+    Ok(())
+}
+
+/// The calls of a script: one command a line, up to `quit` or the end. An empty line says nothing; `show` is the ten looks at what it shows.
+/// Refused with the number of the first line that is no command; what follows a `quit` is not read.
+#[tactic(auto, using(crate::proofs::Lines::none_before))]
+pub fn read_script(heap: Global, text: &[u8]) -> Result<Vec<Call>, ScriptFault>
+    ensures calls { IfOk result (λ calls. script text.now ≡ Ok calls.items) }
+    ensures fault { IfErr result (λ fault. FaultOf (script text.now) fault) }
+{
+    let mut calls = Vec::new(heap);
+    add_script(&mut calls, text)?;
     Ok(calls)
 }

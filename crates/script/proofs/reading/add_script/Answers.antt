@@ -1,9 +1,6 @@
 use Rattle.std.proofs.Common.{rules, arith}
-use Rattle.script.proofs.Lines.{none-before, more_read, quit_read, less_left}
-use Rattle.script.proofs.reading.read_script.Goals as goal
-
-pub loop-rest-init : goal.loop-rest-init
-loop-rest-init c = (search (rules, none-before), omega arith)
+use Rattle.script.proofs.Lines.{more_read, quit_read, less_left}
+use Rattle.script.proofs.reading.add_script.Goals as goal
 
 pub loop-rest-preserved : goal.loop-rest-preserved
 loop-rest-preserved c =

@@ -1,6 +1,6 @@
 -- The lines of a script, one after another.
 use Rattle.std.proofs.Common.{◌≡◌, ◌∙◌, refl, sym, ap, ℕ, zero, suc, ◌+◌, ◌<◌, ◌≤◌, List, [], ◌∷◌, ◌++◌, length, drop, position, Some, None, Option, Result, Ok, Err, arith}
-use Rattle.std.specs.Prelude.{◌==◌, false, MatchOption}
+use Rattle.std.specs.Prelude.{◌==◌, MatchOption}
 use Rattle.std.specs.Option.{option_map_or}
 use Rattle.std.proofs.lemmas.List.{append-nil, append_assoc, length-drop}
 use Rattle.session.specs.declared.call.Call.{Call}
@@ -37,10 +37,9 @@ next n (c ∷ cs) some =
     let less : length (after_first_line (c ∷ cs)) < length (c ∷ cs) = shorter (c ∷ cs) some in
     ap (λ ls. and_then (said n (line_of (first_line (c ∷ cs)))) (calls_of (n + 1) ls)) (enough (length cs) (length (after_first_line (c ∷ cs))) (after_first_line (c ∷ cs)) (omega (arith, less)) (omega arith))
 
-none : (n : ℕ) (text : List ℕ) → length text ≡ 0 → calls_of n (lines_of text) ≡ Ok []
+none : (n : ℕ) → calls_of n (lines_of []) ≡ Ok []
 unfolding lines_of
-none n [] h = refl
-none n (c ∷ cs) h = absurd (omega (arith, h))
+none n = refl
 
 -- calls before calls
 before-before : (cs ds : List Call) (r : Result (List Call) ℕ) → before cs (before ds r) ≡ before (cs ++ ds) r
@@ -51,36 +50,32 @@ pub none_before : (r : Result (List Call) ℕ) → before [] r ≡ r
 none_before (Ok cs) = refl
 none_before (Err n) = refl
 
-not_empty : (text : List ℕ) → false ≡ (length text == 0) → 0 < length text
-not_empty [] some = cc
-not_empty (c ∷ cs) some = omega arith
-
 -- r is what a script gives, of which these calls were read, up to `text`: the first line of that is read as well
-read : (r : Result (List Call) ℕ) (cs : List Call) (n : ℕ) (text first after : List ℕ) (l : Line) (o : Result (Option (List Call)) ℕ) → r ≡ before cs (calls_of n (lines_of text)) → false ≡ (length text == 0) → first ≡ first_line text → after ≡ after_first_line text → l ≡ line_of first → said n l ≡ o → r ≡ before cs (and_then o (calls_of (n + 1) (lines_of after)))
+read : (r : Result (List Call) ℕ) (cs : List Call) (n : ℕ) (text first after : List ℕ) (l : Line) (o : Result (Option (List Call)) ℕ) → r ≡ before cs (calls_of n (lines_of text)) → 0 < length text → first ≡ first_line text → after ≡ after_first_line text → l ≡ line_of first → said n l ≡ o → r ≡ before cs (and_then o (calls_of (n + 1) (lines_of after)))
 read r cs n text first after l o so_far some is_first is_after is_line says =
-    so_far ∙ ap (before cs) (rw (is_after, sym says, is_line, is_first) (next n text (not_empty text some)))
+    so_far ∙ ap (before cs) (rw (is_after, sym says, is_line, is_first) (next n text some))
 
-pub more_read : (r : Result (List Call) ℕ) (cs ds more : List Call) (n : ℕ) (text first after : List ℕ) (l : Line) → r ≡ before cs (calls_of n (lines_of text)) → false ≡ (length text == 0) → first ≡ first_line text → after ≡ after_first_line text → l ≡ line_of first → said n l ≡ Ok (Some more) → ds ≡ cs ++ more → r ≡ before ds (calls_of (n + 1) (lines_of after))
+pub more_read : (r : Result (List Call) ℕ) (cs ds more : List Call) (n : ℕ) (text first after : List ℕ) (l : Line) → r ≡ before cs (calls_of n (lines_of text)) → 0 < length text → first ≡ first_line text → after ≡ after_first_line text → l ≡ line_of first → said n l ≡ Ok (Some more) → ds ≡ cs ++ more → r ≡ before ds (calls_of (n + 1) (lines_of after))
 more_read r cs ds more n text first after l so_far some is_first is_after is_line says added =
     read r cs n text first after l (Ok (Some more)) so_far some is_first is_after is_line says
     ∙ before-before cs more (calls_of (n + 1) (lines_of after))
     ∙ ap (λ es. before es (calls_of (n + 1) (lines_of after))) (sym added)
 
-pub quit_read : {B : Type 0} (r : Result (List Call) ℕ) (cs : List Call) (n : ℕ) (text first : List ℕ) (l : Line) (o : Option B) (Q : B → Type 0) → r ≡ before cs (calls_of n (lines_of text)) → false ≡ (length text == 0) → first ≡ first_line text → l ≡ line_of first → o ≡ None → MatchOption o (said n l ≡ Ok None) Q → r ≡ Ok cs
+pub quit_read : {B : Type 0} (r : Result (List Call) ℕ) (cs : List Call) (n : ℕ) (text first : List ℕ) (l : Line) (o : Option B) (Q : B → Type 0) → r ≡ before cs (calls_of n (lines_of text)) → 0 < length text → first ≡ first_line text → l ≡ line_of first → o ≡ None → MatchOption o (said n l ≡ Ok None) Q → r ≡ Ok cs
 quit_read r cs n text first l None Q so_far some is_first is_line none says =
     read r cs n text first (after_first_line text) l (Ok None) so_far some is_first refl is_line says ∙ ap Ok (append-nil cs)
 quit_read r cs n text first l (Some more) Q so_far some is_first is_line none says = cc
 
-pub other_read : (r : Result (List Call) ℕ) (cs : List Call) (n m : ℕ) (text first : List ℕ) (l : Line) → r ≡ before cs (calls_of n (lines_of text)) → false ≡ (length text == 0) → first ≡ first_line text → l ≡ line_of first → said n l ≡ Err m → r ≡ Err m
+pub other_read : (r : Result (List Call) ℕ) (cs : List Call) (n m : ℕ) (text first : List ℕ) (l : Line) → r ≡ before cs (calls_of n (lines_of text)) → 0 < length text → first ≡ first_line text → l ≡ line_of first → said n l ≡ Err m → r ≡ Err m
 other_read r cs n m text first l so_far some is_first is_line says =
     read r cs n text first (after_first_line text) l (Err m) so_far some is_first refl is_line says
 
 -- there is no more
-pub all_read : (r : Result (List Call) ℕ) (cs : List Call) (n : ℕ) (text : List ℕ) → r ≡ before cs (calls_of n (lines_of text)) → length text ≡ 0 → r ≡ Ok cs
-all_read r cs n text so_far none_left = so_far ∙ ap (before cs) (none n text none_left) ∙ ap Ok (append-nil cs)
+pub all_read : (r : Result (List Call) ℕ) (cs : List Call) (n : ℕ) (text : List ℕ) → r ≡ before cs (calls_of n (lines_of text)) → text ≡ [] → r ≡ Ok cs
+all_read r cs n text so_far none_left = so_far ∙ ap (λ (t : List ℕ). before cs (calls_of n (lines_of t))) none_left ∙ ap (before cs) (none n) ∙ ap Ok (append-nil cs)
 
 -- what is left gets shorter
-pub less_left : (text after : List ℕ) → after ≡ after_first_line text → false ≡ (length text == 0) → length after < length text
-less_left text after is_after some = rw is_after (shorter text (not_empty text some))
+pub less_left : (text after : List ℕ) → after ≡ after_first_line text → 0 < length text → length after < length text
+less_left text after is_after some = rw is_after (shorter text some)
 
 pub ruleset reading = (other_read, all_read)

@@ -45,10 +45,7 @@ fn add_script(calls: &mut Vec<Call>, text: &[u8]) -> Result<(), ScriptFault>
 {
     let mut line = 0;
     let mut rest = text;
-    // Asked for by itself: the contract of `split_line` does not say that it finds no line in an empty text.
-    while !rest.is_empty()
-        && let Some((first, after)) = split_line(rest)
-    {
+    while let Some((first, after)) = split_line(rest) {
         line += 1;
         let command = read_line(first);
         match said(&command, line)? {

@@ -1,5 +1,5 @@
 -- The lines of a text. A line ends in byte 10 or at the end of the text; one byte 13 directly before that byte 10 belongs to the ending.
-use Rattle.std.specs.Prelude.{ℕ, ◌+◌, ◌-◌, List, [], length, take, drop, position, codes, ◌==◌, if◌then◌else◌}
+use Rattle.std.specs.Prelude.{ℕ, zero, suc, ◌+◌, ◌-◌, List, [], ◌∷◌, length, take, drop, position, codes, ◌==◌, if◌then◌else◌}
 use Rattle.std.specs.Option.{option_map_or}
 use Rattle.commands.specs.Texts.{ends}
 
@@ -14,3 +14,13 @@ first_line text = option_map_or (λ end. without_return (take end text)) (positi
 -- what stands after the first byte 10, or nothing
 abbrev pub after_first_line : List ℕ → List ℕ
 after_first_line text = option_map_or (λ end. drop (end + 1) text) (position (λ byte. byte == 10) text) []
+
+-- the first n lines of a text, or as many as it has
+unfoldable pub lines_of_first : ℕ → List ℕ → List (List ℕ)
+lines_of_first zero text = []
+lines_of_first (suc n) [] = []
+lines_of_first (suc n) (c ∷ cs) = first_line (c ∷ cs) ∷ lines_of_first n (after_first_line (c ∷ cs))
+
+-- the lines of a text: it has no more of them than bytes
+abbrev pub lines : List ℕ → List (List ℕ)
+lines text = lines_of_first (length text) text

@@ -8,7 +8,7 @@ use Rattle.std.proofs.lemmas.Bool.{cases_lt}
 use Rattle.std.proofs.lemmas.Bool.Decides.{nat_tests}
 use Rattle.std.proofs.lemmas.List.{take-take, take_all, length-take-le, length-drop}
 use Rattle.commands.specs.Lines.{first_line, after_first_line, without_return}
-use Rattle.conversation.specs.Conversations.{lines_of_first, lines}
+use Rattle.commands.specs.Lines.{lines_of_first, lines}
 
 -- where the first byte 10 is, or the length
 before : List ℕ → ℕ

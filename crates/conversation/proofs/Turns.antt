@@ -4,8 +4,8 @@ use Rattle.std.specs.Prelude.{IfSome}
 use Rattle.std.specs.Io.BufRead.{take_through, drop_through}
 use Rattle.std.specs.Io.KnownBytes.{Keeps, Appends}
 use Rattle.bench.specs.State.{State}
-use Rattle.commands.specs.Lines.{first_line}
-use Rattle.conversation.specs.Conversations.{lines, lines_of_first, conversation, led_to, followed, led, Turn}
+use Rattle.commands.specs.Lines.{first_line, lines, lines_of_first}
+use Rattle.conversation.specs.Conversations.{conversation, led_to, followed, led, Turn}
 use Rattle.conversation.specs.Replies.{reply, state_after}
 use Rattle.conversation.proofs.Lines.{lines_read, nothing_read}
 

@@ -1,19 +1,9 @@
 -- A conversation: the lines of a text answered one after another, up to one that ends it.
-use Rattle.std.specs.Prelude.{◌≡◌, ℕ, zero, suc, Bool, true, if◌then◌else◌, List, [], ◌∷◌, ◌++◌, length, Some, None, Option}
+use Rattle.std.specs.Prelude.{◌≡◌, ℕ, Bool, true, if◌then◌else◌, List, [], ◌∷◌, ◌++◌, Some, None, Option}
 use Rattle.std.specs.Io.KnownBytes.{Appends}
 use Rattle.bench.specs.State.{State}
-use Rattle.commands.specs.Lines.{first_line, after_first_line}
+use Rattle.commands.specs.Lines.{lines}
 use Rattle.conversation.specs.Replies.{reply, state_after}
-
--- the first n lines of a text, or as many as it has
-unfoldable pub lines_of_first : ℕ → List ℕ → List (List ℕ)
-lines_of_first zero text = []
-lines_of_first (suc n) [] = []
-lines_of_first (suc n) (c ∷ cs) = first_line (c ∷ cs) ∷ lines_of_first n (after_first_line (c ∷ cs))
-
--- the lines of a text: it has no more of them than bytes
-abbrev pub lines : List ℕ → List (List ℕ)
-lines text = lines_of_first (length text) text
 
 -- an answer, and what follows unless it ends the conversation
 abbrev pub followed : Option (List ℕ) → List ℕ → List ℕ

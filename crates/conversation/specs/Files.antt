@@ -12,7 +12,8 @@ use Rattle.setup.specs.Map.{bank_length, map_kinds, map_words}
 use Rattle.setup.specs.declared.options.Options.{Options}
 use Rattle.stores.specs.Bank.{bank_kind, bank_word}
 use Rattle.stores.specs.Layout.{kind_in_layout, word_in}
-use Rattle.conversation.specs.Conversations.{lines, conversation}
+use Rattle.conversation.specs.Conversations.{conversation}
+use Rattle.commands.specs.Lines.{lines}
 
 -- the bank of the options, all zero
 abbrev pub zeros : Options → List ℕ

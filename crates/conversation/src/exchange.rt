@@ -1,7 +1,8 @@
 ghost use Rattle.std.specs.Prelude.{◌≡◌, IfOk, OnOk, IfSome};
 ghost use Rattle.std.specs.Io.KnownBytes.{Appends};
 ghost use Rattle.bench.specs.State.{state_of};
-ghost use Rattle.conversation.specs.Conversations.{lines, conversation, led_to, Turn};
+ghost use Rattle.commands.specs.Lines.{lines};
+ghost use Rattle.conversation.specs.Conversations.{conversation, led_to, Turn};
 
 use super::reply::reply_to;
 use bench::Bench;

@@ -2,10 +2,10 @@
 
 #![tactic(auto)]
 
-mod calls;
 mod exchange;
 mod file;
 mod reply;
+mod shown;
 
 pub use exchange::converse;
 pub use file::converse_over;

@@ -3,11 +3,12 @@ ghost use Rattle.std.specs.Option.{option_map};
 ghost use Rattle.bench.specs.State.{state_of};
 ghost use Rattle.conversation.specs.Replies.{reply, state_after, LineKept};
 
-use super::calls::{make, show};
+use super::shown::show;
 use answers::AnswerLine;
 use bench::Bench;
 use commands::{Command, Line, read_line};
 use memory::WriteMemory;
+use session::make;
 use std::alloc::{AllocError, Global};
 
 // The answer to a line that is no command: the line itself, byte for byte.

@@ -1,26 +1,16 @@
 -- The calls of a script: one command a line, up to `quit` or the end.
-use Rattle.std.specs.Prelude.{◌≡◌, ℕ, zero, suc, ◌+◌, List, [], ◌∷◌, ◌++◌, length, Option, Some, None, Result, Ok, Err}
+use Rattle.std.specs.Prelude.{◌≡◌, ℕ, ◌+◌, List, [], ◌∷◌, ◌++◌, Option, Some, None, Result, Ok, Err}
 use Rattle.bench.specs.declared.look.Look.TheVariants as looks
 use Rattle.session.specs.declared.call.Call.{Call}
 use Rattle.session.specs.declared.call.Call.TheVariants as calls
-use Rattle.commands.specs.Lines.{first_line, after_first_line}
+use Rattle.commands.specs.Lines.{lines}
 use Rattle.commands.specs.Reading.{line_of}
 use Rattle.commands.specs.declared.command.Command.{Command}
 use Rattle.commands.specs.declared.command.Command.TheVariants as commands
 use Rattle.commands.specs.declared.command.Line.{Line}
-use Rattle.commands.specs.declared.command.Line.TheVariants as lines
+use Rattle.commands.specs.declared.command.Line.TheVariants as line
 use Rattle.script.specs.declared.fault.ScriptFault.{ScriptFault}
 use Rattle.script.specs.declared.fault.ScriptFault.TheVariants as fault
-
--- the first lines of a text, at most so many
-abbrev pub first_lines : ℕ → List ℕ → List (List ℕ)
-first_lines zero text = []
-first_lines (suc most) [] = []
-first_lines (suc most) (c ∷ cs) = first_line (c ∷ cs) ∷ first_lines most (after_first_line (c ∷ cs))
-
--- all of them: each has at least one byte, if only that of its ending
-unfoldable pub lines_of : List ℕ → List (List ℕ)
-lines_of text = first_lines (length text) text
 
 -- what `show` shows
 abbrev pub shown : List Call
@@ -36,9 +26,9 @@ said_by commands.Quit = None
 
 -- those that a line with this number says, or its number where it is no command
 abbrev pub said : ℕ → Line → Result (Option (List Call)) ℕ
-said number lines.Empty = Ok (Some [])
-said number (lines.Command c) = Ok (said_by c)
-said number lines.Other = Err number
+said number line.Empty = Ok (Some [])
+said number (line.Command c) = Ok (said_by c)
+said number line.Other = Err number
 
 -- these calls, and then those of the lines that follow, unless one of these is no command
 abbrev pub before : List Call → Result (List Call) ℕ → Result (List Call) ℕ
@@ -58,7 +48,7 @@ calls_of number (l ∷ ls) = and_then (said number (line_of l)) (calls_of (numbe
 
 -- those of a script: its first line has the number 1
 abbrev pub script : List ℕ → Result (List Call) ℕ
-script text = calls_of 1 (lines_of text)
+script text = calls_of 1 (lines text)
 
 -- the refusal of a script that reads so; want of memory can refuse any script
 abbrev pub FaultOf : Result (List Call) ℕ → ScriptFault → Type 0

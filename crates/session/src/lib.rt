@@ -11,6 +11,6 @@ mod straight;
 
 pub use call::{Answer, Call};
 pub use counting::standing;
-pub use playing::play;
+pub use playing::{make, play};
 pub use replaying::{Replayed, replay};
 pub use stacked::play_stacked;

@@ -9,8 +9,9 @@ use bench::Bench;
 use memory::WriteMemory;
 use registers::RegisterFile;
 
-// Makes one call. By a match: each case has an answer of its own type.
-fn make<M: WriteMemory>(bench: &mut Bench<M>, call: Call) -> Answer
+/// Makes one call of a bench.
+// By a match: each case has an answer of its own type.
+pub fn make<M: WriteMemory>(bench: &mut Bench<M>, call: Call) -> Answer
     ensures answer { result ≡ answered call (state_of M.ReadMemory bench.old) }
     ensures state { state_of M.ReadMemory bench.new ≡ called call (state_of M.ReadMemory bench.old) }
     ensures rest { M.WriteMemory.rest bench.new.memory ≡ M.WriteMemory.rest bench.old.memory }

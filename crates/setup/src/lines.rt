@@ -12,7 +12,10 @@ impl<'a> fmt::Display for UsageLine<'a> {
 
     fn fmt<W: fmt::Write>(&self, f: &mut fmt::Formatter<W>) -> fmt::Result {
         let program = self.0;
-        writeln!(f, "usage: {program} FILE [--shield FROM TO] [--ram AT WORDS]")
+        writeln!(
+            f,
+            "usage: {program} FILE [--shield FROM TO] [--ram AT WORDS]"
+        )
     }
 }
 

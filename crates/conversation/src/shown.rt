@@ -3,28 +3,10 @@ ghost use Rattle.std.specs.Result.{result_unwrap_or};
 ghost use Rattle.bench.specs.Looks.{look_answer};
 ghost use Rattle.bench.specs.State.{state_of};
 ghost use Rattle.conversation.specs.Replies.{shown_of};
-ghost use Rattle.session.specs.Lists.{answered, called};
 
 use answers::ShowLine;
 use bench::{Bench, Look};
-use memory::{ReadMemory, WriteMemory};
-use session::{Answer, Call};
-
-/// Makes one call of the bench.
-// By a match: each case has an answer of its own type.
-pub(super) fn make<M: WriteMemory>(bench: &mut Bench<M>, call: Call) -> Answer
-    ensures answer { result ≡ answered call (state_of M.ReadMemory bench.old) }
-    ensures state { state_of M.ReadMemory bench.new ≡ called call (state_of M.ReadMemory bench.old) }
-    ensures rest { M.WriteMemory.rest bench.new.memory ≡ M.WriteMemory.rest bench.old.memory }
-{
-    match call {
-        Call::Tick => Answer::Ticked(bench.tick()),
-        Call::Step => Answer::Stepped(bench.step()),
-        Call::Run(n) => Answer::Ran(bench.run(n)),
-        Call::Back => Answer::Back(bench.back()),
-        Call::Look(at) => Answer::Looked(bench.look(at)),
-    }
-}
+use memory::ReadMemory;
 
 // What a look shows. Only one at a register or a byte can be refused, and none of those is made here.
 fn seen<M: ReadMemory>(bench: &Bench<M>, at: Look) -> u64

@@ -1,3 +1,6 @@
+ghost use Rattle.std.specs.Prelude.{Some};
+ghost use Rattle.rv32ui.specs.Lines.{count_of};
+
 use rv32ui_cases::{Calls, Over, Seen};
 use std::fmt;
 
@@ -10,6 +13,8 @@ pub struct CountLine {
 }
 
 impl fmt::Display for CountLine {
+    ghost output = { λ l. Some (count_of l.name.now l.passed l.cases) };
+
     fn fmt<W: fmt::Write>(&self, f: &mut fmt::Formatter<W>) -> fmt::Result {
         let name = self.name;
         let passed = self.passed;

@@ -1,12 +1,15 @@
+ghost use Rattle.std.specs.Prelude.{◌≡◌};
+ghost use Rattle.rv32ui_cases.specs.Cases.{number_of};
+
 use super::data::data;
 use super::program::Program;
-use super::shapes::branches::Branch;
-use super::shapes::immediates::Immediate;
-use super::shapes::jumps::Jump;
-use super::shapes::loads::Load;
-use super::shapes::registers::Registers;
-use super::shapes::stores::Store;
-use super::shapes::uppers::Upper;
+use super::shapes::branch_cases::Branch;
+use super::shapes::immediate_cases::Immediate;
+use super::shapes::jump_cases::Jump;
+use super::shapes::load_cases::Load;
+use super::shapes::register_cases::Registers;
+use super::shapes::store_cases::Store;
+use super::shapes::upper_cases::Upper;
 use isa::Mnemonic;
 
 /// A case: its number in the published file, and what it is.
@@ -23,7 +26,9 @@ pub enum Case {
 
 impl Case {
     /// Its number in the published file.
-    pub fn number(self) -> u8 {
+    pub fn number(self) -> u8
+        ensures { result ≡ number_of self }
+    {
         match self {
             Case::Registers(number, _)
             | Case::Immediate(number, _)

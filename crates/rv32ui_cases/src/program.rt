@@ -1,3 +1,10 @@
+ghost use Rattle.std.specs.Prelude.{◌≡◌, ℕ, ◌+◌, ◌%◌, ◌^◌, ◌<◌};
+ghost use Rattle.arch1.specs.Owes.{clocks_of_class};
+ghost use Rattle.isa.specs.Fitting.{Fits};
+ghost use Rattle.isa.specs.Reading.{Reads};
+ghost use Rattle.isa.specs.Table.{row_of};
+ghost use Rattle.rv32ui_cases.specs.Programs.{counted, with_word};
+
 use super::instructions::{addi, bne, jal, upper};
 use bits::sign_extend;
 use encode::encode;
@@ -22,17 +29,17 @@ pub struct Counts {
 /// comes to its end.
 #[derive(Clone, Copy)]
 pub struct Program {
-    pub(super) words: [u32; WORDS],
-    // The data that follows.
-    pub(super) data: &'static [u32],
-    // What retires on the published path.
-    pub(super) counts: Counts,
+    pub words: [u32; WORDS],
+    /// The data that follows the words.
+    pub data: &'static [u32],
+    /// What retires on the published path.
+    pub counts: Counts,
     /// The register that the case is about. At the end it holds `value`.
     pub register: u8,
-    pub(super) value: u32,
-    // Where the next instruction goes, in bytes from the start: at last, the end.
-    pub(super) here: u32,
-    // How often the published path runs it.
+    pub value: u32,
+    /// Where the program ends, in bytes from its start. The next instruction goes there.
+    pub end: u32,
+    // How often the published path runs what is put next.
     runs: u64,
 }
 
@@ -54,12 +61,17 @@ fn split(number: u32) -> (i64, i64) {
 }
 
 // The word of an instruction; 0, which is no instruction, if it has none.
-fn word_of(instruction: &Instruction) -> u32 {
+fn word_of(instruction: &Instruction) -> u32
+    ensures reads { (v : ℕ) → v < 2 ^ 32 → Reads v instruction.now → result ≡ v }
+    ensures lacks { (Fits instruction.now → ⊥) → result ≡ 0 }
+{
     encode(instruction).unwrap_or(0)
 }
 
 /// The clocks of an instruction of this class: four for a load or a branch, and three for any other.
-pub fn clocks_of(class: Class) -> u64 {
+pub fn clocks_of(class: Class) -> u64
+    ensures { result ≡ clocks_of_class class }
+{
     match class {
         Class::Ld | Class::Br => 4,
         _ => 3,
@@ -68,7 +80,9 @@ pub fn clocks_of(class: Class) -> u64 {
 
 impl Counts {
     // With `runs` more instructions of this class.
-    fn with(self, class: Class, runs: u64) -> Counts {
+    fn with(self, class: Class, runs: u64) -> Counts
+        ensures { result ≡ counted class runs self }
+    {
         Counts {
             instructions: self.instructions.wrapping_add(runs),
             clocks: self
@@ -90,7 +104,7 @@ impl Program {
             },
             register: 3,
             value: u32::from(number),
-            here: 0,
+            end: 0,
             runs: 0,
         };
         program.put(jal(0, 0));
@@ -100,16 +114,29 @@ impl Program {
     }
 
     // Puts an instruction at the end. A program that has no place for it does not pass, since its end is not reached.
-    pub(super) fn put(&mut self, instruction: Instruction) {
-        if let Some(place) = self.words.get_mut((self.here / 4) as usize) {
-            *place = word_of(&instruction);
+    pub(super) fn put(&mut self, instruction: Instruction)
+        ensures words { (v : ℕ) → v < 2 ^ 32 → Reads v instruction → self.new.words ≡ with_word self.old.end v self.old.words }
+        ensures end { self.new.end ≡ (self.old.end + 4) % 2 ^ 32 }
+        ensures counts { self.new.counts ≡ counted (row_of instruction.mnemonic).class self.old.runs self.old.counts }
+        ensures runs { self.new.runs ≡ self.old.runs }
+        ensures register { self.new.register ≡ self.old.register }
+        ensures value { self.new.value ≡ self.old.value }
+    {
+        let k = (self.end / 4) as usize;
+        if k < WORDS {
+            self.words[k] = word_of(&instruction);
         }
-        self.here = self.here.wrapping_add(4);
+        self.end = self.end.wrapping_add(4);
         self.counts = self.counts.with(instruction.mnemonic.class(), self.runs);
     }
 
     // Puts an instruction that the published path jumps over.
-    pub(super) fn put_skipped(&mut self, instruction: Instruction) {
+    pub(super) fn put_skipped(&mut self, instruction: Instruction)
+        ensures words { (v : ℕ) → v < 2 ^ 32 → Reads v instruction → self.new.words ≡ with_word self.old.end v self.old.words }
+        ensures end { self.new.end ≡ (self.old.end + 4) % 2 ^ 32 }
+        ensures counts { self.new.counts ≡ self.old.counts }
+        ensures runs { self.new.runs ≡ self.old.runs }
+    {
         let runs = self.runs;
         self.runs = 0;
         self.put(instruction);
@@ -125,7 +152,7 @@ impl Program {
 
     // Loads the address of a place.
     pub(super) fn la(&mut self, rd: u8, place: u32) {
-        let (high, low) = split(place.wrapping_sub(self.here));
+        let (high, low) = split(place.wrapping_sub(self.end));
         self.put(upper(Mnemonic::Auipc, rd, high));
         self.put(addi(rd, rd, low));
     }
@@ -138,12 +165,12 @@ impl Program {
 
     // The place so many instructions further on.
     pub(super) fn ahead(&self, count: u32) -> u32 {
-        self.here.wrapping_add(count.wrapping_mul(4))
+        self.end.wrapping_add(count.wrapping_mul(4))
     }
 
     // From here to where the checks that fail go to.
     pub(super) fn to_fail(&self) -> i64 {
-        offset(self.here, 0)
+        offset(self.end, 0)
     }
 
     // The published check of a result.
@@ -158,14 +185,14 @@ impl Program {
     pub(super) fn twice(&mut self) -> u32 {
         self.li(4, 0);
         self.runs = 2;
-        self.here
+        self.end
     }
 
     // The end of a loop that begins at `start`.
     pub(super) fn again(&mut self, start: u32) {
         self.put(addi(4, 4, 1));
         self.li(5, 2);
-        self.put(bne(4, 5, offset(self.here, start)));
+        self.put(bne(4, 5, offset(self.end, start)));
         self.runs = 1;
     }
 

@@ -1,3 +1,6 @@
+ghost use Rattle.std.specs.Prelude.{◌≡◌};
+ghost use Rattle.rv32ui_cases.specs.Runs.{start_over, expected_of};
+
 use super::program::{Counts, Program, WORDS};
 use bench::{Bench, Look};
 use layers::{Joined, Placed, Shield};
@@ -36,11 +39,13 @@ pub struct Seen {
 const DATA_WORD: u32 = WORDS as u32;
 
 impl Over {
-    // The word where the program starts.
-    fn base(self) -> u32 {
+    // The address where the program starts.
+    fn start(self) -> u32
+        ensures { result ≡ start_over self }
+    {
         match self {
             Over::ByteImage => 0,
-            Over::Stack => 0x2000_0000,
+            Over::Stack => 0x8000_0000,
         }
     }
 }
@@ -62,10 +67,10 @@ fn show<M: ReadMemory>(bench: &Bench<M>, at: Look) -> u64 {
     bench.look(at).unwrap_or(u64::MAX)
 }
 
-// Runs a program that stands in the memory from word `base` on, as far as its published path goes.
-fn drive<M: WriteMemory + Drop>(memory: M, base: u32, program: &Program, calls: Calls) -> Seen {
-    let start = base.wrapping_mul(4).wrapping_add(4);
-    let mut bench = Bench::new(memory, RegisterFile::new([0; 32]), start);
+// Runs a program that stands in the memory from address `start` on, as far as its published path goes.
+fn drive<M: WriteMemory + Drop>(memory: M, start: u32, program: &Program, calls: Calls) -> Seen {
+    let first = start.wrapping_add(4);
+    let mut bench = Bench::new(memory, RegisterFile::new([0; 32]), first);
     // A call that is refused leaves the counters behind, so no answer is needed.
     match calls {
         Calls::Steps => {
@@ -94,10 +99,11 @@ fn drive<M: WriteMemory + Drop>(memory: M, base: u32, program: &Program, calls: 
 fn drive_stack<L: WriteMemory + Drop, R: WriteMemory + Drop>(
     left: L,
     right: R,
-    base: u32,
+    start: u32,
     program: &Program,
     calls: Calls,
 ) -> Seen {
+    let base = start / 4;
     let mut joined = Joined {
         at: DATA_WORD + 1,
         left,
@@ -112,7 +118,7 @@ fn drive_stack<L: WriteMemory + Drop, R: WriteMemory + Drop>(
             below: joined,
         },
     };
-    drive(stack, base, program, calls)
+    drive(stack, start, program, calls)
 }
 
 impl Program {
@@ -123,23 +129,24 @@ impl Program {
                 let mut bytes = [0; 512];
                 let mut image = ByteImage::new(&mut bytes);
                 load(&mut image, self);
-                drive(image, over.base(), self, calls)
+                drive(image, over.start(), self, calls)
             }
             Over::Stack => {
                 let mut bytes = [0; 4 * (WORDS + 1)];
                 let mut words = [0; 2 * WORDS];
                 let left = ByteImage::new(&mut bytes);
                 let right = WordBank::new(&mut words);
-                drive_stack(left, right, over.base(), self, calls)
+                drive_stack(left, right, over.start(), self, calls)
             }
         }
     }
 
     /// What the bench has to show then.
-    pub fn expected(&self, over: Over) -> Seen {
-        let start = over.base().wrapping_mul(4);
+    pub fn expected(&self, over: Over) -> Seen
+        ensures { result ≡ expected_of self.now over }
+    {
         Seen {
-            pc: u64::from(start.wrapping_add(self.here)),
+            pc: u64::from(over.start().wrapping_add(self.end)),
             phase: 0,
             register: u64::from(self.value),
             counts: self.counts,

@@ -1,7 +1,7 @@
 //! Branches.
 
 use crate::case::Case::{self, Branch};
-use crate::shapes::branches::Branch::{DelaySlot, OpNotTaken, OpTaken, Src12Bypass};
+use crate::shapes::branch_cases::Branch::{DelaySlot, OpNotTaken, OpTaken, Src12Bypass};
 
 pub(crate) const BEQ: &[Case] = &[
     Branch(2, OpTaken(0, 0)),

@@ -1,7 +1,7 @@
 //! Jumps, and the simple test.
 
 use crate::case::Case::{self, Jump};
-use crate::shapes::jumps::Jump::{
+use crate::shapes::jump_cases::Jump::{
     JalDelaySlot, JalLink, JalrDelaySlot, JalrLink, JalrSrc1Bypass, JalrSrc1EqDest, Simple,
 };
 

@@ -1,7 +1,7 @@
 //! Loads.
 
 use crate::case::Case::{self, Load};
-use crate::shapes::loads::Load::{DestBypass, MovedBase, Op, Overwritten, Src1Bypass};
+use crate::shapes::load_cases::Load::{DestBypass, MovedBase, Op, Overwritten, Src1Bypass};
 
 pub(crate) const LB: &[Case] = &[
     Load(2, Op(0xffff_ffff, 0, 0)),

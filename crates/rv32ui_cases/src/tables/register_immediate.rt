@@ -1,7 +1,7 @@
 //! Operations on a register and an immediate.
 
 use crate::case::Case::{self, Immediate};
-use crate::shapes::immediates::Immediate::{
+use crate::shapes::immediate_cases::Immediate::{
     DestBypass, Op, Src1Bypass, Src1EqDest, ZeroDest, ZeroSrc1,
 };
 

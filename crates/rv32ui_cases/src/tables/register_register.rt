@@ -1,7 +1,7 @@
 //! Operations on two registers.
 
 use crate::case::Case::{self, Registers};
-use crate::shapes::registers::Registers::{
+use crate::shapes::register_cases::Registers::{
     DestBypass, Op, Src1EqDest, Src2EqDest, Src12Bypass, Src12EqDest, Src21Bypass, ZeroDest,
     ZeroSrc1, ZeroSrc2, ZeroSrc12,
 };

@@ -1,7 +1,7 @@
 //! Stores.
 
 use crate::case::Case::{self, Store};
-use crate::shapes::stores::Store::{MovedBase, Op, Src12Bypass, Src21Bypass, UnalignedBase};
+use crate::shapes::store_cases::Store::{MovedBase, Op, Src12Bypass, Src21Bypass, UnalignedBase};
 use isa::Mnemonic::{Lb, Lh, Lw};
 
 pub(crate) const SB: &[Case] = &[

@@ -1,7 +1,7 @@
 //! LUI and AUIPC.
 
 use crate::case::Case::{self, Upper};
-use crate::shapes::uppers::Upper::{AuipcDistance, Lui, LuiShifted, LuiZeroDest};
+use crate::shapes::upper_cases::Upper::{AuipcDistance, Lui, LuiShifted, LuiZeroDest};
 
 pub(crate) const LUI: &[Case] = &[
     Upper(2, Lui(0, 0)),

@@ -21,7 +21,14 @@ fn read_file(rt: &HostRuntime, path: &str) -> io::Result<Vec<u8>> {
 }
 
 fn main(rt: HostRuntime) -> io::Result<()> {
-    let all = env::args(&rt)?;
+    let all = match env::args(&rt) {
+        Ok(all) => all,
+        // One of them is not UTF-8.
+        Err(error) if error.kind() == io::ErrorKind::InvalidData => {
+            return rt.print(UsageLine("replay"));
+        }
+        Err(error) => return Err(error),
+    };
     let mut texts = Vec::new(rt.alloc());
     for text in all {
         texts.push(text)?;

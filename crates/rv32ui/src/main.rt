@@ -1,0 +1,15 @@
+//! Runs the published RISC-V tests of these instructions on the bench, and prints how many cases of each pass.
+
+#![tactic(auto)]
+
+mod lines;
+mod report;
+
+use report::report;
+use std::io;
+use std::io::Write;
+
+fn main(rt: HostRuntime) -> io::Result<()> {
+    let text = report(rt.alloc())?;
+    rt.stdout().write_all(text.as_bytes())
+}

@@ -17,7 +17,9 @@ fn main(rt: HostRuntime) -> io::Result<()> {
     let all = match env::args(&rt) {
         Ok(all) => all,
         // One of them is not UTF-8.
-        Err(error) if error.kind() == io::ErrorKind::InvalidData => return rt.print(UsageLine("console")),
+        Err(error) if error.kind() == io::ErrorKind::InvalidData => return rt.print(UsageLine(
+            "console",
+        )),
         Err(error) => return Err(error),
     };
     let mut texts = Vec::new(rt.alloc());

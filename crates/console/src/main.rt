@@ -34,8 +34,10 @@ fn main(rt: HostRuntime) -> io::Result<()> {
     let Some(arguments) = read_arguments(&words) else {
         return rt.print(UsageLine("console"));
     };
-    let Ok(bytes) = read_file(&rt, arguments.file) else {
-        return rt.print(UnreadableLine(arguments.file));
+    let bytes = match read_file(&rt, arguments.file) {
+        Ok(bytes) => bytes,
+        Err(error) if error.kind() == io::ErrorKind::OutOfMemory => return Err(error),
+        Err(_) => return rt.print(UnreadableLine(arguments.file)),
     };
     let mut input = BufReader::new(rt.alloc(), rt.stdin())?;
     converse_over(

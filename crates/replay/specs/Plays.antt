@@ -22,12 +22,12 @@ use Rattle.stores.specs.Layout.{kind_in_layout, word_in}
 abbrev pub contents_in : BenchFile → Contents
 contents_in f = record { start = f.start; base = f.base; limit = f.limit; image = f.image.now }
 
--- the bytes of the image that show, and those of the bank
+-- the bytes of the image that show, and those of the bank; words of number 2 ^ 30 and above are none
 abbrev pub image_span : Options → ℕ → ℕ → Span
 image_span o base size = record { from = base; length = min size (4 * bank_from o.ram - base) }
 
 abbrev pub bank_span : Options → Span
-bank_span o = record { from = 4 * bank_from o.ram % 2 ^ 32; length = 4 * bank_length o.ram }
+bank_span o = record { from = 4 * bank_from o.ram % 2 ^ 32; length = 4 * min (bank_length o.ram) (2 ^ 30 - bank_from o.ram) }
 
 -- the words of a bank are zero
 abbrev pub empty_bank : Options → List ℕ

@@ -18,27 +18,31 @@ use setup::Options;
 use std::alloc::{AllocError, Global};
 use stores::{ByteImage, WordBank};
 
+/// How many word numbers there are.
+const WORD_NUMBERS: u64 = 1 << 30;
+
 // The bytes of the image that show, and those of the bank.
 fn spans(file: BenchFile<'_>, options: Options) -> Spans
     ensures image { result.image ≡ image_span options file.entry.base (length file.entry.image.now) }
     ensures bank { result.bank ≡ bank_span options }
 {
-    let bank_from = 4 * u64::from(options.bank_at());
-    let length = file.image.len() as u64;
+    let at = u64::from(options.bank_at());
+    let image = file.image.len() as u64;
+    let bank = u64::from(options.bank_words());
     Spans {
         image: Span {
             from: file.base,
-            length: length.min(bank_from.saturating_sub(u64::from(file.base))),
+            length: image.min((4 * at).saturating_sub(u64::from(file.base))),
         },
         bank: Span {
-            from: (bank_from % (1 << 32)) as u32,
-            length: 4 * u64::from(options.bank_words()),
+            from: (4 * at % (1 << 32)) as u32,
+            length: 4 * bank.min(WORD_NUMBERS.saturating_sub(at)),
         },
     }
 }
 
 // Plays calls over a memory and its twin, and tells what has changed since a start from the file.
-fn play_over_file<M: WriteMemory + Drop, S: WriteMemory + Drop>(
+fn with_fresh<M: WriteMemory + Drop, S: WriteMemory + Drop>(
     heap: Global,
     file: BenchFile<'_>,
     options: Options,
@@ -60,7 +64,7 @@ fn play_over_file<M: WriteMemory + Drop, S: WriteMemory + Drop>(
 }
 
 // The same, the steps alone on a bench of the file.
-fn play_on<M: WriteMemory + Drop>(
+fn with_twin<M: WriteMemory + Drop>(
     heap: Global,
     file: BenchFile<'_>,
     options: Options,
@@ -76,7 +80,7 @@ fn play_on<M: WriteMemory + Drop>(
         ByteImage::new(image.as_mut_slice()),
         WordBank::new(bank.as_mut_slice()),
     );
-    play_over_file(heap, file, options, calls, memory, twin)
+    with_fresh(heap, file, options, calls, memory, twin)
 }
 
 // The same, the calls on another bench of the file. Each of the three memories has a function of its own, which keeps its proof short.
@@ -95,7 +99,7 @@ fn play(
         ByteImage::new(image.as_mut_slice()),
         WordBank::new(bank.as_mut_slice()),
     );
-    play_on(heap, file, options, calls, memory)
+    with_twin(heap, file, options, calls, memory)
 }
 
 /// All that the program prints for a bench file, options and a script: the calls with their answers and both states, or the line of the

@@ -40,7 +40,7 @@ impl fmt::Display for Shown {
         let clocks = self.seen.counts.clocks;
         write!(
             f,
-            "x{register} {number:x}, pc {pc:x} in T{phase}, {instructions} instructions, {clocks} clocks"
+            "x{register} = 0x{number:x}, PC = 0x{pc:x} in T{phase}, {instructions} instructions, {clocks} clocks"
         )
     }
 }

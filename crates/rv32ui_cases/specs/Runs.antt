@@ -1,5 +1,5 @@
 -- What a bench has to show at the end of a program's published path.
-use Rattle.std.specs.Prelude.{ℕ, ◌+◌, ◌*◌, ◌%◌, ◌^◌}
+use Rattle.std.specs.Prelude.{ℕ, ◌+◌, ◌%◌, ◌^◌}
 use Rattle.rv32ui_cases.specs.declared.program.Program.{Program}
 use Rattle.rv32ui_cases.specs.declared.running.Over.{Over}
 use Rattle.rv32ui_cases.specs.declared.running.Over.TheVariants.{ByteImage, Stack}

@@ -13,6 +13,6 @@ mod suites;
 mod tables;
 
 pub use case::Case;
-pub use program::{Counts, Program, clocks_of};
+pub use program::{Counts, Program};
 pub use running::{Calls, Over, Seen};
 pub use suites::{SUITES, Suite};

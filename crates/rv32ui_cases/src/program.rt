@@ -14,7 +14,7 @@ use isa::{Class, Instruction, Mnemonic};
 pub(super) const WORDS: usize = 64;
 
 /// Where the data starts, in bytes from the start of the program.
-const DATA: u32 = 256;
+const DATA: u32 = 4 * WORDS as u32;
 
 /// How many instructions retire, and in how many clocks.
 #[derive(Clone, Copy, PartialEq, Eq)]
@@ -68,8 +68,8 @@ fn word_of(instruction: &Instruction) -> u32
     encode(instruction).unwrap_or(0)
 }
 
-/// The clocks of an instruction of this class: four for a load or a branch, and three for any other.
-pub fn clocks_of(class: Class) -> u64
+// The clocks of an instruction of this class: four for a load or a branch, and three for any other.
+fn clocks_of(class: Class) -> u64
     ensures { result ≡ clocks_of_class class }
 {
     match class {
@@ -113,7 +113,7 @@ impl Program {
         program
     }
 
-    // Puts an instruction at the end. A program that has no place for it does not pass, since its end is not reached.
+    // Puts an instruction at the end. Where there is no place for it, the program does not pass: its path is not all there.
     pub(super) fn put(&mut self, instruction: Instruction)
         ensures words { (v : ℕ) → v < 2 ^ 32 → Reads v instruction → self.new.words ≡ with_word self.old.end v self.old.words }
         ensures end { self.new.end ≡ (self.old.end + 4) % 2 ^ 32 }

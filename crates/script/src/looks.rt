@@ -6,7 +6,6 @@ use session::Call;
 use std::alloc::{AllocError, Global};
 
 /// Calls with looks between them: after each, a look at the phase, at PC and at both counters.
-
 #[tactic(auto, using(crate::proofs::Watching::watching))]
 pub fn with_looks(heap: Global, calls: &[Call]) -> Result<Vec<Call>, AllocError>
     ensures { IfOk result (λ watched. watched.items ≡ with_looks calls.now) }

@@ -89,17 +89,20 @@ pub replays : (s z : Start) (cs : List Call) (given : List Answer) (n : ℕ) (le
 replays s z cs given n left t w u v law reach count close new ran also =
     let run : u ≡ ran_for n (fresh_of z) = ran ∙ ap (ran_for n) new in
     let here : Reached s n t = rw (close, count) (closed_reached s _ left reach) in
+    let stand = reached_stands s n t here in
+    let from : 0 + n ≡ n = omega arith in
+    let came : z.kinds ≡ s.kinds → z.arch ≡ s.arch → Reached z n v =
+        λ k a.
+        let there : after z.kinds z.arch (0 + n) ≡ Some stand.come = rw (from, k, a) stand.there in
+        let steps : Reached z n (ran_for n (fresh_of z)) = rw from at (straight_on z stand.come n 0 (fresh_of z) there fresh) in
+        rw (also, run) (closed_reached z n _ steps) in
     record {
       left = left;
       lawful = law;
       counted = count;
       played = close;
+      reached = here;
       straight = also ∙ ap closed run;
-      same = λ k a.
-          let stand = reached_stands s n t here in
-          let from : 0 + n ≡ n = omega arith in
-          let there : after z.kinds z.arch (0 + n) ≡ Some stand.come = rw (from, k, a) stand.there in
-          let steps : Reached z n (ran_for n (fresh_of z)) = rw from at (straight_on z stand.come n 0 (fresh_of z) there fresh) in
-          let came : Reached z n v = rw (also, run) (closed_reached z n _ steps) in
-          agree s z n t v k a stand (reached_stands z n v came) (rw close (none_open left)) (rw also (none_open u));
+      follows = came;
+      same = λ k a. agree s z n t v k a stand (reached_stands z n v (came k a)) (rw close (none_open left)) (rw also (none_open u));
     }

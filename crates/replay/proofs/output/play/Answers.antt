@@ -10,5 +10,5 @@ returns c =
     let calls = c.args.calls.now in
     let image : c.new.result.cells.now ≡ c.args.file.image.now = search rules in
     let bank : c.new-2.result.cells.now ≡ empty_bank o = search rules in
-    IfOk-weaker c.play_on.result (λ x. PlaysOn o file _ calls (string_bytes x)) (λ x. Plays o file calls (string_bytes x))
-    (λ x e. record { start = _; here = record { kinds = rw (c.map-memory.ensures, image, bank) refl; arch = rw (c.map-memory.ensures, image, bank) refl }; plays = e }) c.play_on.ensures
+    IfOk-weaker c.with_twin.result (λ x. PlaysOn o file _ calls (string_bytes x)) (λ x. Plays o file calls (string_bytes x))
+    (λ x e. record { start = _; here = record { kinds = rw (c.map-memory.ensures, image, bank) refl; arch = rw (c.map-memory.ensures, image, bank) refl }; plays = e }) c.with_twin.ensures

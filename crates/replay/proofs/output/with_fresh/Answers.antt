@@ -3,7 +3,7 @@ use Rattle.std.proofs.lemmas.Result.{IfOk-weaker}
 use Rattle.bench.specs.Law.{start_over}
 use Rattle.replay.specs.Plays.{contents_in, empty_bank, PlaysOver}
 use Rattle.replay.specs.Tells.{Tells, cleared}
-use Rattle.replay.proofs.output.play_over_file.Goals as goal
+use Rattle.replay.proofs.output.with_fresh.Goals as goal
 
 pub returns : goal.returns
 returns g c =

@@ -45,7 +45,6 @@ fn line(text: &[u8]) -> Line
 
 /// What a line says, by its bytes without its ending. Words are parted by exactly one space. It is `Other` where it is no command, as
 /// with a number of more than 32 bits.
-#[tactic(auto, using(crate::proofs::Table::reads))]
 pub fn read_line(text: &[u8]) -> Line
     ensures value { result ≡ line_of text.now }
     ensures law { Reads text.now result }

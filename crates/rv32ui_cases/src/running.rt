@@ -1,5 +1,6 @@
 ghost use Rattle.std.specs.Prelude.{◌≡◌};
-ghost use Rattle.rv32ui_cases.specs.Runs.{start_over, expected_of};
+ghost use Rattle.rv32ui_cases.specs.Runs.{start_over, expected_of, called, after, begun, how_many, number_at, shown_of, run_over, RunSomewhere};
+ghost use Rattle.bench.specs.State.{state_of};
 
 use super::program::{Counts, Program, WORDS};
 use bench::{Bench, Look};
@@ -38,6 +39,18 @@ pub struct Seen {
 /// The word where the data starts.
 const DATA_WORD: u32 = WORDS as u32;
 
+impl Calls {
+    // How many of them run what these counts are of.
+    fn count(self, counts: Counts) -> u64
+        ensures { result ≡ how_many self counts }
+    {
+        match self {
+            Calls::Steps => counts.instructions,
+            Calls::Ticks => counts.clocks,
+        }
+    }
+}
+
 impl Over {
     // The address where the program starts.
     fn start(self) -> u32
@@ -63,36 +76,64 @@ fn load<M: WriteMemory>(memory: &mut M, program: &Program) {
 }
 
 // What a look shows. One that is refused shows what is in no register.
-fn show<M: ReadMemory>(bench: &Bench<M>, at: Look) -> u64 {
+fn show<M: ReadMemory>(bench: &Bench<M>, at: Look) -> u64
+    ensures { result ≡ number_at at (state_of M.ReadMemory bench.now) }
+{
     bench.look(at).unwrap_or(u64::MAX)
 }
 
-// Runs a program that stands in the memory from address `start` on, as far as its published path goes.
-fn drive<M: WriteMemory + Drop>(memory: M, start: u32, program: &Program, calls: Calls) -> Seen {
-    let first = start.wrapping_add(4);
-    let mut bench = Bench::new(memory, RegisterFile::new([0; 32]), first);
-    // A call that is refused leaves the counters behind, so no answer is needed.
-    match calls {
-        Calls::Steps => {
-            for _ in 0..program.counts.instructions {
-                let _ = bench.step();
-            }
-        }
-        Calls::Ticks => {
-            for _ in 0..program.counts.clocks {
-                let _ = bench.tick();
-            }
-        }
-    }
+// What is shown for a case about this register.
+fn see<M: ReadMemory>(bench: &Bench<M>, register: u8) -> Seen
+    ensures { result ≡ shown_of register (state_of M.ReadMemory bench.now) }
+{
     Seen {
-        pc: show(&bench, Look::Pc),
-        phase: show(&bench, Look::Phase),
-        register: show(&bench, Look::Register(program.register)),
+        pc: show(bench, Look::Pc),
+        phase: show(bench, Look::Phase),
+        register: show(bench, Look::Register(register)),
         counts: Counts {
-            instructions: show(&bench, Look::Retired),
-            clocks: show(&bench, Look::Clocks),
+            instructions: show(bench, Look::Retired),
+            clocks: show(bench, Look::Clocks),
         },
     }
+}
+
+// One call. What it answers is not needed: a call that is refused leaves the counters behind.
+fn call<M: WriteMemory>(bench: &mut Bench<M>, calls: Calls)
+    ensures { state_of M.ReadMemory bench.new ≡ called calls (state_of M.ReadMemory bench.old) }
+{
+    match calls {
+        Calls::Steps => {
+            let _ = bench.step();
+        }
+        Calls::Ticks => {
+            let _ = bench.tick();
+        }
+    }
+}
+
+// So many calls, one after another.
+fn call_all<M: WriteMemory>(bench: &mut Bench<M>, calls: Calls, count: u64)
+    ensures { state_of M.ReadMemory bench.new ≡ after calls count (state_of M.ReadMemory bench.old) }
+{
+    for _done in 0..count {
+        call(bench, calls);
+    }
+}
+
+// A new bench at the second word from address `start` on, with all registers zero.
+fn begin<M: WriteMemory>(memory: M, start: u32) -> Bench<M>
+    ensures { state_of M.ReadMemory result ≡ begun start (M.ReadMemory.kinds memory) (M.ReadMemory.words memory) }
+{
+    Bench::new(memory, RegisterFile::new([0; 32]), start.wrapping_add(4))
+}
+
+// Runs a program that stands in the memory from address `start` on, as far as its published path goes.
+fn drive<M: WriteMemory + Drop>(memory: M, start: u32, program: &Program, calls: Calls) -> Seen
+    ensures { result ≡ run_over program.now calls start (M.ReadMemory.kinds memory) (M.ReadMemory.words memory) }
+{
+    let mut bench = begin(memory, start);
+    call_all(&mut bench, calls, calls.count(program.counts));
+    see(&bench, program.register)
 }
 
 // Runs a program on a stack of layers over two stores.
@@ -102,7 +143,9 @@ fn drive_stack<L: WriteMemory + Drop, R: WriteMemory + Drop>(
     start: u32,
     program: &Program,
     calls: Calls,
-) -> Seen {
+) -> Seen
+    ensures { RunSomewhere program.now calls start result }
+{
     let base = start / 4;
     let mut joined = Joined {
         at: DATA_WORD + 1,
@@ -123,7 +166,9 @@ fn drive_stack<L: WriteMemory + Drop, R: WriteMemory + Drop>(
 
 impl Program {
     /// What a new bench shows after so many steps or ticks as the program's published path has.
-    pub fn run(&self, over: Over, calls: Calls) -> Seen {
+    pub fn run(&self, over: Over, calls: Calls) -> Seen
+        ensures { RunSomewhere self.now calls (start_over over) result }
+    {
         match over {
             Over::ByteImage => {
                 let mut bytes = [0; 512];

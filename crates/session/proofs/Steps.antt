@@ -92,10 +92,10 @@ replays s z cs given n left t w u v law reach count close new ran also =
     let stand = reached_stands s n t here in
     let from : 0 + n ≡ n = omega arith in
     let came : z.kinds ≡ s.kinds → z.arch ≡ s.arch → Reached z n v =
-        λ k a.
-        let there : after z.kinds z.arch (0 + n) ≡ Some stand.come = rw (from, k, a) stand.there in
-        let steps : Reached z n (ran_for n (fresh_of z)) = rw from at (straight_on z stand.come n 0 (fresh_of z) there fresh) in
-        rw (also, run) (closed_reached z n _ steps) in
+    λ k a.
+    let there : after z.kinds z.arch (0 + n) ≡ Some stand.come = rw (from, k, a) stand.there in
+    let steps : Reached z n (ran_for n (fresh_of z)) = rw from at (straight_on z stand.come n 0 (fresh_of z) there fresh) in
+    rw (also, run) (closed_reached z n _ steps) in
     record {
       left = left;
       lawful = law;

@@ -3,7 +3,7 @@
 use Rattle.std.proofs.Common.{◌≡◌, ℕ, suc, ◌-◌, ◌%◌, ◌^◌, ◌<◌, ◌≤◌, ◌⊎◌, ℤ, pos, negsuc, ◌+ℤ◌, ◌<ℤ◌, ◌≤ℤ◌, sym, refl, ap, ◌∙◌, inl, inr, ⊎_elim, one-mul, arith, rules, Ok, Err, Result, MatchResult, mod-eq_of_lt}
 use Rattle.isa.specs.declared.refusal.Refusal.{Refusal}
 use Rattle.isa.specs.Refusals.{number_of}
-use Rattle.encode.specs.Words.{Within, Carries, Filled}
+use Rattle.encode.specs.Words.{Within, Carries, Filled, Only}
 use Rattle.isa.specs.declared.table.Row.{Row}
 use Rattle.isa.specs.Table.{Agrees}
 use Rattle.std.proofs.lemmas.Int.{ints}
@@ -119,18 +119,18 @@ pub branches : TwoSources Branch 13 imm_b
 branches = record { some = search rules; below = below_b; value = λ _. refl; rd = λ _. refl; rs1 = λ _. refl; rs2 = λ _. refl; agrees = λ _ _ _ _ a b. (a, b); codes = λ _ _ _ _ h. h }
 
 module _ (f : Format) (width : ℕ) (imm : ℕ → ℕ) (form : TwoSources f width imm) (r : Row) (i : Instruction) (x rd rs2 funct7 w : ℕ) (made : Filled r rd i.rs1 rs2 funct7 w) (second : rs2 ≡ i.rs2) (word : w < 2 ^ 32) (fits : x < 2 ^ width) (value : signed_of width x ≡ i.immediate) where
-  -- no other word has the instruction i
-  pub only_word : ((v : ℕ) → imm v ≡ x → (field 7 5 v ≡ rd) × (field 25 7 v ≡ funct7)) → (v : ℕ) → Carries f r i v → w ≡ v
-  only_word slots v k =
-      let there = slots v (same_offset f width imm form.some form.below form.value i v x k.operands fits value) in
-      let codes = form.codes r _ _ _ k.codes in
-      let rs1 : i.rs1 ≡ field 15 5 v = ap (λ (j : Instruction). j.rs1) k.operands ∙ form.rs1 v in
-      let rs2 : i.rs2 ≡ field 20 5 v = ap (λ (j : Instruction). j.rs2) k.operands ∙ form.rs2 v in
-      same_word w v word k.word (made.opcode ∙ sym codes.0) (made.rd ∙ sym there.0) (made.funct3 ∙ sym codes.1) (made.rs1 ∙ rs1) (made.rs2 ∙ second ∙ rs2) (made.funct7 ∙ sym there.1)
-
-  pub carries : (field 7 5 w ≡ rd → field 25 7 w ≡ funct7 → imm w ≡ x) → i.rd ≡ 0 → Carries f r i w
-  carries back none = record {
-    word = word;
-    codes = form.agrees r _ _ _ made.opcode made.funct3;
-    operands = same_operands f i w (none ∙ sym (form.rd w)) (sym made.rs1 ∙ sym (form.rs1 w)) (sym (made.rs2 ∙ second) ∙ sym (form.rs2 w)) (sym value ∙ sym (ap (signed_of width) (back made.rd made.funct7)) ∙ sym (form.value w));
-  }
+  -- w has the instruction i, and no other word has
+  pub one_word : ((v : ℕ) → imm v ≡ x → (field 7 5 v ≡ rd) × (field 25 7 v ≡ funct7)) → (field 7 5 w ≡ rd → field 25 7 w ≡ funct7 → imm w ≡ x) → i.rd ≡ 0 → Only f r i (Ok w) × Carries f r i w
+  one_word there back none = (
+    λ v k.
+        let slots = there v (same_offset f width imm form.some form.below form.value i v x k.operands fits value) in
+        let codes = form.codes r _ _ _ k.codes in
+        let rs1 : i.rs1 ≡ field 15 5 v = ap (λ (j : Instruction). j.rs1) k.operands ∙ form.rs1 v in
+        let rs2 : i.rs2 ≡ field 20 5 v = ap (λ (j : Instruction). j.rs2) k.operands ∙ form.rs2 v in
+        ap Ok (same_word w v word k.word (made.opcode ∙ sym codes.0) (made.rd ∙ sym slots.0) (made.funct3 ∙ sym codes.1) (made.rs1 ∙ rs1) (made.rs2 ∙ second ∙ rs2) (made.funct7 ∙ sym slots.1)),
+    record {
+      word = word;
+      codes = form.agrees r _ _ _ made.opcode made.funct3;
+      operands = same_operands f i w (none ∙ sym (form.rd w)) (sym made.rs1 ∙ sym (form.rs1 w)) (sym (made.rs2 ∙ second) ∙ sym (form.rs2 w)) (sym value ∙ sym (ap (signed_of width) (back made.rd made.funct7)) ∙ sym (form.value w));
+    },
+  )

@@ -20,10 +20,11 @@ pub record Carries (f : Format) (r : Row) (i : Instruction) (w : ℕ) : Type 0 w
   pub codes : Agrees f r (field 0 7 w) (field 12 3 w) (field 25 7 w)
   pub operands : i ≡ in_format f i.mnemonic w
 
--- the answer a is the one word that carries i, if i fits the format, and else the refusal 10
+-- the answer a is the word that carries i, if there is one
 abbrev pub Only : Format → Row → Instruction → Result ℕ Refusal → Type 0
 Only f r i a = (v : ℕ) → Carries f r i v → a ≡ Ok v
 
+-- the answer a is a word that carries i, which fits the format, or else the refusal 10
 abbrev pub Written : Format → Row → Instruction → Result ℕ Refusal → Type 0
 Written f r i a = MatchResult a (λ w. Carries f r i w × FitsFormat f i) (λ e. (number_of e ≡ 10) × (FitsFormat f i → ⊥))
 

@@ -1,11 +1,11 @@
 -- What a write at the next place, and a step back, are on the list of the entries.
 -- Assumes nothing.
-use Rattle.std.proofs.Common.{◌≡◌, ℕ, zero, suc, ◌+◌, ◌-◌, ◌%◌, ◌<◌, ◌≤◌, ltb, ◌≢◌, List, ◌∷◌, length, get_or, take, set, min, Some, refl, ap, ap₂, inl, inr, le_of_suc-le-suc, add-one, arith, take_all, get_or-set_other, get_or-set_same, ltb-false, ltb-true}
+use Rattle.std.proofs.Common.{◌≡◌, ℕ, zero, suc, ◌+◌, ◌-◌, ◌%◌, ◌<◌, ◌≤◌, ltb, ◌≢◌, List, ◌∷◌, length, get_or, take, set, min, Some, refl, ap, ap₂, inl, inr, le_of_suc-le-suc, arith, take_all, get_or-set_other, get_or-set_same, ltb-false, ltb-true}
 use Rattle.std.proofs.lemmas.Bool.{cases_Bool}
 use Rattle.std.proofs.lemmas.Bool.Decides.{nat_tests}
 use Rattle.journal.specs.declared.entry.Entry.{Entry}
 use Rattle.journal.specs.Entries.{empty, popped, remaining}
-use Rattle.journal.specs.Ring.{place_after, place_before, grown, behind}
+use Rattle.journal.specs.Ring.{place_before, behind}
 
 pub behind_length : (es : List Entry) (p n : ℕ) → length (behind es p n) ≡ n
 behind_length es p zero = refl
@@ -27,22 +27,24 @@ behind_other es e q i p (suc n) at low few =
 
 module _ (es : List Entry) (p n : ℕ) (e : Entry) (whole : length es ≡ 256) (low : p < 256) where
   -- one more entry, before at most 255 others
-  over : (m : ℕ) → m < 256 → behind (set es p e) (place_after p) (suc m) ≡ e ∷ behind es p m
+  over : (m : ℕ) → m < 256 → behind (set es p e) ((p + 1) % 256) (suc m) ≡ e ∷ behind es p m
   over m few =
-      let home : place_before (place_after p) ≡ p = omega arith in
+      let home : place_before ((p + 1) % 256) ≡ p = omega arith in
       let here : p < length es = omega arith in
       rw home (ap₂ (λ (x : Entry) (r : List Entry). x ∷ r) (get_or-set_same es p e empty here) (behind_other es e p 0 p m (omega arith) low (omega arith)))
 
-  pub put_listed : n ≤ 256 → behind (set es p e) (place_after p) (grown n) ≡ take 256 (e ∷ behind es p n)
-  put_listed most =
+  -- as the code counts
+  pub push_listed : n ≤ 256 → behind (set es p e) ((p + 1) % 256) (min (n + 1) 256) ≡ take 256 (e ∷ behind es p n)
+  push_listed most =
       elim (cases_Bool (ltb n 256)) [
         | inl t ↦
             let few : n < 256 = ltb-true n 256 t in
+            let more : min (n + 1) 256 ≡ suc n = grind (arith, nat_tests) in
             let all : length (behind es p n) ≤ 255 = rw behind_length (omega arith) in
-            rw (t, add-one n, take_all 255 (behind es p n) all) (over n few)
+            rw (more, take_all 255 (behind es p n) all) (over n few)
         | inr f ↦
             let full : n ≡ 256 = omega (arith, ltb-false n 256 f) in
-            rw (f, full, behind_take es p 255 256 (omega arith)) (over 255 (omega arith))
+            rw (full, behind_take es p 255 256 (omega arith)) (over 255 (omega arith))
       ]
 
 pub back_value : (es : List Entry) (p n : ℕ) → 0 < n → Some (get_or es (place_before p) empty) ≡ popped (behind es p n)
@@ -52,10 +54,3 @@ back_value es p (suc n) h = refl
 pub back_listed : (es : List Entry) (p n : ℕ) → 0 < n → behind es (place_before p) (n - 1) ≡ remaining (behind es p n)
 back_listed es p zero h = absurd (omega arith)
 back_listed es p (suc n) h = ap (behind es (place_before p)) (omega arith)
-
--- the same, as the code counts
-pub push_listed : (es : List Entry) (p n : ℕ) (e : Entry) → length es ≡ 256 → p < 256 → n ≤ 256 →
-    behind (set es p e) ((p + 1) % 256) (min (n + 1) 256) ≡ take 256 (e ∷ behind es p n)
-push_listed es p n e whole low most =
-    let more : min (n + 1) 256 ≡ grown n = grind (arith, nat_tests) in
-    rw more (put_listed es p n e whole low most)

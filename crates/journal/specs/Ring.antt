@@ -1,19 +1,12 @@
 -- A journal as the list of its entries, newest first.
-use Rattle.std.specs.Prelude.{ℕ, zero, suc, ◌+◌, ◌%◌, cond, List, [], ◌∷◌, nat_lt, slice_index_or}
+use Rattle.std.specs.Prelude.{ℕ, zero, suc, ◌+◌, ◌%◌, List, [], ◌∷◌, slice_index_or}
 use Rattle.journal.specs.declared.entry.Entry.{Entry}
 use Rattle.journal.specs.declared.ring.Journal.TheInside.{Inside}
 use Rattle.journal.specs.Entries.{empty}
 
 -- the places 0 to 255 go round
-abbrev pub place_after : ℕ → ℕ
-place_after p = (p + 1) % 256
-
 abbrev pub place_before : ℕ → ℕ
 place_before p = (p + 255) % 256
-
--- one more filled place, unless all are
-abbrev pub grown : ℕ → ℕ
-grown n = cond (nat_lt n 256) (n + 1) n
 
 -- the entries at the n places before p, the nearest first
 abbrev pub behind : List Entry → ℕ → ℕ → List Entry

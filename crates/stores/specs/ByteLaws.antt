@@ -3,8 +3,8 @@ use Rattle.std.proofs.Common.{◌≡◌, ℕ, ◌+◌, ◌*◌, ◌/◌, ◌%◌
 use Rattle.std.proofs.lemmas.Bool.{ltb-true}
 use Rattle.std.proofs.lemmas.Grind.{common_steps}
 use Rattle.memory.specs.Lanes.{lane, named, taken, merged}
-use Rattle.stores.specs.Cells.{CellLaws}
-use Rattle.stores.specs.Layout.{whole, whole_high, word_at, outside, with_lane, with_lanes}
+use Rattle.stores.specs.Cells.{CellLaws, not_numbered}
+use Rattle.stores.specs.Layout.{whole, word_at, outside, with_lane, with_lanes}
 
 -- the four bytes of a word that is there
 pub four_there : (n k : ℕ) → whole n k ≡ true → 4 * k + 3 < n
@@ -59,7 +59,7 @@ module _ (bs : List ℕ) (k v mask : ℕ) where
 
 pub byte_laws : CellLaws whole word_at with_lanes outside
 byte_laws = record {
-  high = whole_high;
+  high = λ n k. not_numbered k _;
   fits = λ bs k. omega arith;
   same_length = lanes_length;
   this_word = λ bs k v mask w. this_word bs k v mask (four_there (length bs) k w);

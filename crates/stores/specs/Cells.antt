@@ -1,10 +1,17 @@
 -- The words of a memory in a row of cells: bytes, or whole words.
-use Rattle.std.specs.Prelude.{◌≡◌, ℕ, ◌^◌, ◌<◌, ◌≤◌, Bool, true, false, cond, List, length, nat_lt}
-use Rattle.std.proofs.Common.{◌≢◌, arith}
+use Rattle.std.specs.Prelude.{◌≡◌, ℕ, ◌^◌, ◌<◌, ◌≤◌, Bool, true, false, cond, ◌&&◌, ltb, List, length, nat_lt}
+use Rattle.std.proofs.Common.{◌≢◌, arith, le-ltb}
 use Rattle.memory.specs.declared.kind.Kind.{Kind}
 use Rattle.memory.specs.declared.kind.Kind.TheVariants.{Absent}
 use Rattle.memory.specs.Lanes.{merged}
 use Rattle.memory.specs.Rest.{Rest, lent, shared}
+
+-- k is a word number
+abbrev pub numbered : ℕ → Bool
+numbered k = nat_lt k (2 ^ 30)
+
+pub not_numbered : (k : ℕ) (b : Bool) → 2 ^ 30 ≤ k → (numbered k && b) ≡ false
+not_numbered k b h = let e : ltb k (2 ^ 30) ≡ false = le-ltb k _ h in rw e
 
 -- what is so of every kind of cell
 pub record CellLaws {C : Type 0} (holds : ℕ → ℕ → Bool) (word_at : List C → ℕ → ℕ) (with_lanes : List C → ℕ → ℕ → ℕ → List C) (spare : List C → ℕ → ℕ) : Type 0 where

@@ -4,8 +4,8 @@ use Rattle.std.proofs.lemmas.Bool.{ltb-true}
 use Rattle.std.proofs.lemmas.Grind.{common_steps}
 use Rattle.memory.proofs.FourLanes.{each_lane}
 use Rattle.memory.specs.Lanes.{lane, taken, merged}
-use Rattle.stores.specs.Bank.{within, within_high, placed_at, spare, with_word}
-use Rattle.stores.specs.Cells.{CellLaws}
+use Rattle.stores.specs.Bank.{within, placed_at, spare, with_word}
+use Rattle.stores.specs.Cells.{CellLaws, not_numbered}
 
 -- a word that is put together fits, and takes no more than 32 bits of the old one
 module _ (mask v w : ℕ) where
@@ -37,7 +37,7 @@ module _ (ws : List ℕ) (k v mask : ℕ) where
 
 pub word_laws : CellLaws within placed_at with_word spare
 word_laws = record {
-  high = within_high;
+  high = λ n k. not_numbered k _;
   fits = λ ws k. omega arith;
   same_length = same_length;
   this_word = this_word;

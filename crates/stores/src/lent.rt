@@ -10,8 +10,7 @@ use super::store::Store;
 use memory::{MemoryFault, WriteMemory};
 
 /// Lends the cells to a `Store`, writes its word `k` once, and gives the store up.
-/// The cells are then what `exact` says, as a list: of bytes it is `bytes_after`, of words `words_after`. `after` says the same of
-/// the words that they hold.
+/// The cells are then what `exact` says, as a list. `after` says the same of the words that they hold.
 pub fn write_lent<T: Cell>(cells: &mut [T], k: u32, value: u32, mask: u8) -> Result<(), MemoryFault>
     ensures answer { result ≡ write_of k mask (kind_in_cells T.holds Open cells.old k) }
     ensures exact { cells.new ≡ cells_after T.holds T.with_lanes cells.old k value mask }

@@ -3,7 +3,9 @@
 ghost use Rattle.std.specs.Prelude.{◌≡◌, ℕ};
 ghost use Rattle.memory.specs.Meaning.{write_of, patched};
 ghost use Rattle.memory.specs.declared.kind.Kind.TheVariants.{Fixed};
-ghost use Rattle.stores.specs.Layout.{kind_in_layout, word_in, high_in, fits_in, shared_bytes};
+ghost use Rattle.stores.specs.ByteLaws.{byte_laws};
+ghost use Rattle.stores.specs.Cells.{cells_high, cells_fit};
+ghost use Rattle.stores.specs.Layout.{kind_in_layout, word_in, shared_bytes};
 
 use super::refusals::admit;
 use super::store::{kind_in, read_word};
@@ -33,9 +35,9 @@ impl<'a> ReadMemory for ReadOnlyImage<'a> {
 
     ghost words = { λ s. word_in s.bytes.now };
 
-    ghost high = { λ s. high_in Fixed s.bytes.now };
+    ghost high = { λ s. cells_high byte_laws s.bytes.now Fixed };
 
-    ghost fits = { λ s. fits_in s.bytes.now };
+    ghost fits = { λ s. cells_fit byte_laws s.bytes.now };
 
     fn kind(&self, k: u32) -> Kind {
         kind_in(Kind::Fixed, self.bytes, k)

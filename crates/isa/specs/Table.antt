@@ -1,6 +1,5 @@
 -- The table of the instructions, as the manual lists them: class, format, opcode, funct3 and funct7 of each mnemonic.
-use Rattle.std.specs.Prelude.{◌≡◌, ℕ, ◌^◌, Bool, ◌&&◌, nat_lt, IsTrue}
-use Rattle.std.proofs.Common.{refl}
+use Rattle.std.specs.Prelude.{◌≡◌, ℕ, ◌^◌, Bool, ◌&&◌, nat_lt, IsTrue, refl}
 use Rattle.std.proofs.lemmas.Bool.{and_parts, ltb-true}
 use Rattle.isa.specs.declared.table.Row.{Row}
 use Rattle.isa.specs.declared.mnemonic.Class.{Class}
@@ -14,7 +13,7 @@ use Rattle.isa.specs.declared.mnemonic.Mnemonic.TheVariants.{Addi, Slli, Slti, S
 use Rattle.isa.specs.declared.mnemonic.Mnemonic.TheVariants.{Lui, Auipc, Lb, Lh, Lw, Lbu, Lhu, Sb, Sh, Sw, Jal, Jalr}
 use Rattle.isa.specs.declared.mnemonic.Mnemonic.TheVariants.{Beq, Bne, Blt, Bge, Bltu, Bgeu}
 
--- each code is one of its field: opcode and funct7 have seven bits and funct3 has three
+-- whether each code is one of its field: opcode and funct7 have seven bits and funct3 has three
 abbrev codes_fit : ℕ → ℕ → ℕ → Bool
 codes_fit o f g = nat_lt o (2 ^ 7) && (nat_lt f (2 ^ 3) && nat_lt g (2 ^ 7))
 
@@ -33,9 +32,9 @@ entry c t o f g fit =
       funct7_fits = ltb-true g (2 ^ 7) rest.1;
     }
 
--- 0 stands where the format has no such field
+-- 0 stands where the format has no such field; at the end of a row, that its codes fit, as the test computes
 abbrev pub row_of : Mnemonic → Row
---                  class format    opcode    funct3 funct7, and by the test they fit
+--                  class format    opcode    funct3 funct7
 row_of Add = entry Comp Register 0b0110011 0b000 0b0000000 refl
 row_of Sub = entry Comp Register 0b0110011 0b000 0b0100000 refl
 row_of Sll = entry Comp Register 0b0110011 0b001 0b0000000 refl

@@ -7,7 +7,7 @@ use Rattle.arch1.proofs.Clocks.{every_clock}
 use Rattle.arch1.proofs.Owed.{owes_registers, owes_pc, owes_idle}
 use Rattle.arch1.specs.Clock.{beat_of, tick_answer, ticked_core, ticked_words}
 use Rattle.arch1.specs.Owes.{clocks_of_class, Owes, idle, fetched, decoded, loading, branching}
-use Rattle.arch1.specs.Refinement.{Rig, rig, start_of, ticked, answer, ticks, StillOpen, answer_on, answer_for, rig_on, rig_for, Stands, Carries, Refines}
+use Rattle.arch1.specs.Refinement.{Rig, rig, machine_at, ticked, answer, ticks, StillOpen, answer_on, answer_for, rig_on, rig_for, RestsAt, Carries, Refines}
 use Rattle.arch1.specs.Datapath.{Datapath}
 use Rattle.arch1.specs.declared.phase.CoreFault.{CoreFault}
 use Rattle.arch1.specs.declared.phase.Phase.{Phase}
@@ -51,9 +51,9 @@ few_clocks K a g c (decoded w d r f e) = omega arith
 few_clocks K a g c (loading w v f l rd rs1 imm e y h) = omega arith
 few_clocks K a g c (branching w d r cmp rs1 rs2 imm e y) = omega arith
 
--- a core that owes a with no clock gone stands there
-stands : (K : ℕ → Kind) (a : Arch) (s : Rig) → Owes K a 0 s.core → s.words ≡ a.words → Stands K a s
-stands K a s o w =
+-- a core that owes a with no clock gone rests there
+rests : (K : ℕ → Kind) (a : Arch) (s : Rig) → Owes K a 0 s.core → s.words ≡ a.words → RestsAt K a s
+rests K a s o w =
     let between = owes_idle K a s.core o in
     record { owes = o; phase = between; pc = owes_pc K a 0 s.core o between; registers = owes_registers K a 0 s.core o; words = w }
 
@@ -61,11 +61,11 @@ module _ (K : ℕ → Kind) (a : Arch) where
   -- a clock that retires, and one that is refused, against the step
   done_by : (g n : ℕ) (st : Step) (s : Rig) → n ≡ suc g → Retires (Owes K) clocks_of_class a st g s.core s.words → Carries K a st (Ok n) s
   done_by g n st s e r =
-      subst (λ (z : Step). Carries K a z (Ok n) s) (sym r.step) (e ∙ r.clocks, stands K r.to s r.owes r.stored)
+      subst (λ (z : Step). Carries K a z (Ok n) s) (sym r.step) (e ∙ r.clocks, rests K r.to s r.owes r.stored)
 
   refused_by : (st : Step) (f : CoreFault) (s : Rig) → Refuses (Owes K) clocks_of_class a st f.cause f.address s.core s.words → Carries K a st (Err f) s
   refused_by st f s r =
-      subst (λ (z : Step). Carries K a z (Err f) s) (sym r.step) (refl, r.at, stands K a s r.owes r.kept)
+      subst (λ (z : Step). Carries K a z (Err f) s) (sym r.step) (refl, r.at, rests K a s r.owes r.kept)
 
   -- one clock, and what is left of the instruction after it
   by_answer : (g : ℕ) (r : Result Ticked CoreFault) (s : Rig) (later-answer : Result ℕ CoreFault) (later : Rig) →
@@ -109,11 +109,11 @@ module _ (K : ℕ → Kind) (a : Arch) where
   }
 
 -- a core in T0 is between instructions
-starts : (K : ℕ → Kind) (c : Datapath) (W : ℕ → ℕ) → c.phase ≡ T0 → Owes K (start_of c W) 0 c
+starts : (K : ℕ → Kind) (c : Datapath) (W : ℕ → ℕ) → c.phase ≡ T0 → Owes K (machine_at c W) 0 c
 starts K c W e =
-    subst (λ (p : Phase). Owes K (start_of c W) 0 (record { registers = c.registers; pc = c.pc; tr = c.tr; ir = c.ir; dr = c.dr; ar = c.ar; flg = c.flg; phase = p })) (sym e)
+    subst (λ (p : Phase). Owes K (machine_at c W) 0 (record { registers = c.registers; pc = c.pc; tr = c.tr; ir = c.ir; dr = c.dr; ar = c.ar; flg = c.flg; phase = p })) (sym e)
     (idle c.tr c.ir c.dr c.ar c.flg)
 
 pub instruction_refines : (K : ℕ → Kind) (c : Datapath) (W : ℕ → ℕ) (r : Result ℕ CoreFault) (t : Rig) → r ≡ answer_for K 4 0 (rig c W) → t ≡ rig_for K 4 (rig c W) →
-    c.phase ≡ T0 → Refines K (start_of c W) (rig c W) r t
-instruction_refines K c W r t p q e = rw (p, q) (refines_from K (start_of c W) (rig c W) refl (starts K c W e))
+    c.phase ≡ T0 → Refines K (machine_at c W) (rig c W) r t
+instruction_refines K c W r t p q e = rw (p, q) (refines_from K (machine_at c W) (rig c W) refl (starts K c W e))

@@ -24,8 +24,8 @@ abbrev pub rig : Datapath → (ℕ → ℕ) → Rig
 rig c W = record { core = c; words = W }
 
 -- the machine where a core that is between instructions is
-abbrev pub start_of : Datapath → (ℕ → ℕ) → Arch
-start_of c W = record { pc = c.pc; registers = c.registers; words = W }
+abbrev pub machine_at : Datapath → (ℕ → ℕ) → Arch
+machine_at c W = record { pc = c.pc; registers = c.registers; words = W }
 
 abbrev pub ticked : (ℕ → Kind) → Rig → Rig
 ticked K s = record { core = ticked_core K s.words s.core; words = ticked_words K s.words s.core }
@@ -61,7 +61,7 @@ rig_for K zero s = s
 rig_for K (suc k) s = rig_on (answer K s) (ticked K s) (rig_for K k (ticked K s))
 
 -- the core is between instructions at a, with its PC and registers, and the memory has its words
-pub record Stands (K : ℕ → Kind) (a : Arch) (s : Rig) : Type 0 where
+pub record RestsAt (K : ℕ → Kind) (a : Arch) (s : Rig) : Type 0 where
   pub owes : Owes K a 0 s.core
   pub phase : s.core.phase ≡ T0
   pub pc : s.core.pc ≡ a.pc
@@ -71,10 +71,10 @@ pub record Stands (K : ℕ → Kind) (a : Arch) (s : Rig) : Type 0 where
 -- the clocks of one instruction against one step of the machine: as many as its class takes, and the machine's state after it;
 -- or a refusal exactly where the step cannot be carried out, for its cause and at its address, and all as before
 abbrev pub Carries : (ℕ → Kind) → Arch → Step → Result ℕ CoreFault → Rig → Type 0
-Carries K a (went b k) (Ok n) t = (n ≡ clocks_of_class k) × Stands K b t
+Carries K a (went b k) (Ok n) t = (n ≡ clocks_of_class k) × RestsAt K b t
 Carries K a (went b k) (Err f) t = ⊥
 Carries K a (cannot c) (Ok n) t = ⊥
-Carries K a (cannot c) (Err f) t = (f.cause ≡ c) × (f.address ≡ a.pc) × Stands K a t
+Carries K a (cannot c) (Err f) t = (f.cause ≡ c) × (f.address ≡ a.pc) × RestsAt K a t
 
 -- from s, between instructions at a, to t with the answer r
 pub record Refines (K : ℕ → Kind) (a : Arch) (s : Rig) (r : Result ℕ CoreFault) (t : Rig) : Type 0 where

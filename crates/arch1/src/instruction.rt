@@ -1,5 +1,5 @@
 ghost use Rattle.std.specs.Prelude.{◌≡◌};
-ghost use Rattle.arch1.specs.Refinement.{rig, answer_for, rig_for, start_of, Refines};
+ghost use Rattle.arch1.specs.Refinement.{rig, answer_for, rig_for, machine_at, Refines};
 ghost use Rattle.arch1.specs.declared.phase.Phase.TheVariants.{T0};
 
 use super::datapath::Core;
@@ -14,7 +14,7 @@ impl Core {
         ensures state { rig self.new (M.ReadMemory.words memory.new) ≡ rig_for (M.ReadMemory.kinds memory.old) 4 (rig self.old (M.ReadMemory.words memory.old)) }
         ensures kinds { M.ReadMemory.kinds memory.new ≡ M.ReadMemory.kinds memory.old }
         ensures rest { M.WriteMemory.rest memory.new ≡ M.WriteMemory.rest memory.old }
-        ensures law { self.old.phase ≡ T0 → Refines (M.ReadMemory.kinds memory.old) (start_of self.old (M.ReadMemory.words memory.old)) (rig self.old (M.ReadMemory.words memory.old)) result (rig self.new (M.ReadMemory.words memory.new)) }
+        ensures law { self.old.phase ≡ T0 → Refines (M.ReadMemory.kinds memory.old) (machine_at self.old (M.ReadMemory.words memory.old)) (rig self.old (M.ReadMemory.words memory.old)) result (rig self.new (M.ReadMemory.words memory.new)) }
     {
         // None takes more than four.
         for done in 0..4u8 {
@@ -32,7 +32,7 @@ impl Core {
         ensures state { rig self.new (M.ReadMemory.words memory.new) ≡ rig_for (M.ReadMemory.kinds memory.old) 4 (rig self.old (M.ReadMemory.words memory.old)) }
         ensures kinds { M.ReadMemory.kinds memory.new ≡ M.ReadMemory.kinds memory.old }
         ensures rest { M.WriteMemory.rest memory.new ≡ M.WriteMemory.rest memory.old }
-        ensures law { self.old.phase ≡ T0 → Refines (M.ReadMemory.kinds memory.old) (start_of self.old (M.ReadMemory.words memory.old)) (rig self.old (M.ReadMemory.words memory.old)) result (rig self.new (M.ReadMemory.words memory.new)) }
+        ensures law { self.old.phase ≡ T0 → Refines (M.ReadMemory.kinds memory.old) (machine_at self.old (M.ReadMemory.words memory.old)) (rig self.old (M.ReadMemory.words memory.old)) result (rig self.new (M.ReadMemory.words memory.new)) }
     {
         self.clocks(memory)
     }

@@ -15,7 +15,7 @@ use Rattle.journal.specs.Entries.{popped}
 use Rattle.journal.specs.declared.entry.Entry.{Entry}
 use Rattle.machine.specs.Machine.{Arch, went, cannot, stepped, fetched_word, wrap, x, Run, after, long}
 use Rattle.memory.specs.declared.kind.Kind.{Kind}
-use Rattle.bench.proofs.Sound.{Past, Sound, sound, sound_new, TickBy, TickOutcome, tick_law, owes_phase, phase_few}
+use Rattle.bench.proofs.Sound.{Past, Sound, sound, sound_new, with_one, TickBy, TickOutcome, tick_law, owes_phase, phase_few}
 use Rattle.bench.proofs.Undo.{Fit}
 use Rattle.bench.specs.Calls.{down, open_clocks, new_state, tick_answer, ticked_state, entry, stepped_of, last_answer, step_answer_on, stepped_on, step_answer_for, stepped_for, step_answer, stepped_state}
 use Rattle.bench.specs.Calls.{run_answer_on, ran_on, run_answer_for, ran_for, run_answer, ran_state, closed_state, took_back, took_answer, back_state, back_answer}
@@ -25,16 +25,18 @@ use Rattle.bench.specs.declared.answers.Stepped.{Stepped}
 use Rattle.bench.specs.declared.answers.Stop.TheVariants as stop
 
 -- what a step says of its instruction
-abbrev Told : (ℕ → Kind) → Arch → Class → Stepped → Type 0
+abbrev pub Told : (ℕ → Kind) → Arch → Class → Stepped → Type 0
 Told K a k x = (x.address ≡ a.pc) × (fetched_word K a ≡ Ok x.word) × (x.clocks ≡ 3 + long k)
 
+-- what a step comes to, in the state u: it leaves no instruction open
 abbrev pub StepOutcome : (s : Start) → ℕ → Run → State → Result Stepped CoreFault → Type 0
-StepOutcome s n r u (Ok x) = (q : Run) × (k : Class) × (stepped s.kinds r.arch ≡ went q.arch k) × Told s.kinds r.arch k x × Sound s (suc n) q u
-StepOutcome s n r u (Err f) = (stepped s.kinds r.arch ≡ cannot f.cause) × (f.address ≡ r.arch.pc) × Sound s n r u
+StepOutcome s n r u (Ok x) =
+    (b : Arch) × (k : Class) × (stepped s.kinds r.arch ≡ went b k) × Told s.kinds r.arch k x × Sound s (suc n) (with_one r b k) u × (open_clocks u ≡ 0)
+StepOutcome s n r u (Err f) = (stepped s.kinds r.arch ≡ cannot f.cause) × (f.address ≡ r.arch.pc) × Sound s n r u × (open_clocks u ≡ 0)
 
 module _ (s : Start) (n : ℕ) (r : Run) where
   retired_by_lem : (t : State) → TickBy s n r t (ticked_state t) true → StepOutcome s n r (ticked_state t) (Ok (stepped_of (entry t)))
-  retired_by_lem t law = let undo = law.3 in (law.0, law.1, law.2, (undo.address, undo.word, undo.clocks), law.4)
+  retired_by_lem t law = let undo = law.3 in (law.0, law.1, law.2, (undo.address, undo.word, undo.clocks), law.4, law.5)
 
   -- the last clock of four
   last_by : (t : State) (b : Bool) → 3 ≤ open_clocks t → TickBy s n r t (ticked_state t) b → StepOutcome s n r (ticked_state t) (Ok (stepped_of (entry t)))
@@ -76,7 +78,7 @@ module _ (s : Start) (base : ℕ) where
       Lives s (run_count base (run_answer_on done y (run_answer_for (done + 1) k (stepped_state t)))) (ran_on y (stepped_state t) (ran_for k (stepped_state t)))
   run_on done k r t (Ok x) law go =
       let one : suc (base + done) ≡ base + (done + 1) = omega arith in
-      go (stepped_state t) law.0 (rw one at law.4)
+      go (stepped_state t) (with_one r law.0 law.1) (rw one at law.4)
   run_on done k r t (Err f) law go = (r, law.2)
 
   run_law_for : (k done : ℕ) (r : Run) (t : State) → Sound s (base + done) r t → Lives s (run_count base (run_answer_for done k t)) (ran_for k t)
@@ -96,7 +98,7 @@ run_lives s n m t o = run_law_by s n m o.0 t (ltb 1000000 m) o.1
 down_mod : (x y d : ℕ) → x ≡ y + d → d ≤ 4 → down (x % 2 ^ 64) d ≡ y % 2 ^ 64
 down_mod x y d e h = omega arith
 
-long_few : (k : Class) → long k ≤ 1
+pub long_few : (k : Class) → long k ≤ 1
 long_few class.Comp = omega arith
 long_few class.CompI = omega arith
 long_few class.Lui = omega arith
@@ -182,7 +184,7 @@ back_lives s n t o = back_law s n o.0 t o.1
 
 -- tick and step
 tick_count_lem : (s : Start) (n : ℕ) (r : Run) (t u : State) (b : Bool) → TickBy s n r t u b → Lives s (cond b (suc n) n) u
-tick_count_lem s n r t u true law = (law.0, law.4)
+tick_count_lem s n r t u true law = (with_one r law.0 law.1, law.4)
 tick_count_lem s n r t u false law = (r, law.0)
 
 tick_lives_by : (s : Start) (n : ℕ) (r : Run) (t u : State) (y : Result Ticked CoreFault) → TickOutcome s n r t u y → Lives s (tick_count n y) u
@@ -193,7 +195,7 @@ pub tick_lives : (s : Start) (n : ℕ) (t : State) → Lives s n t → Lives s (
 tick_lives s n t o = tick_lives_by s n o.0 t (ticked_state t) (tick_answer t) (tick_law s n o.0 t o.1)
 
 step_lives_by : (s : Start) (n : ℕ) (r : Run) (u : State) (y : Result Stepped CoreFault) → StepOutcome s n r u y → Lives s (step_count n y) u
-step_lives_by s n r u (Ok x) law = (law.0, law.4)
+step_lives_by s n r u (Ok x) law = (with_one r law.0 law.1, law.4)
 step_lives_by s n r u (Err f) law = (r, law.2)
 
 pub step_lives : (s : Start) (n : ℕ) (t : State) → Lives s n t → Lives s (step_count n (step_answer t)) (stepped_state t)
@@ -207,7 +209,7 @@ next_by : (s : Start) (n : ℕ) (r : Run) (u : State) (y : Result Stepped CoreFa
 next_by s n r u (Ok x) law = rw law.2 law.3
 next_by s n r u (Err f) law = rw law.0 (law.1, refl)
 
-stands : (s : Start) (n : ℕ) (r : Run) (t : State) → Sound s n r t → Stands s n t
+pub stands : (s : Start) (n : ℕ) (r : Run) (t : State) → Sound s n r t → Stands s n t
 stands s n r t (sound c j k q g there owes clk ret past fit) =
     let same = owes_phase s.kinds r.arch g c owes in
     record {
@@ -221,6 +223,10 @@ stands s n r t (sound c j k q g there owes clk ret past fit) =
       retired = ret;
       next = next_by s n r _ _ (step_law s n r _ (sound c j k q g there owes clk ret past fit));
     }
+
+pub come_is : (s : Start) (n : ℕ) (r : Run) (t : State) (h : Sound s n r t) → (stands s n r t h).come ≡ r
+unfolding stands
+come_is s n r t (sound c j k q g there owes clk ret past fit) = refl
 
 pub lives_stands : (s : Start) (n : ℕ) (t : State) → Lives s n t → Stands s n t
 lives_stands s n t o = stands s n o.0 t o.1

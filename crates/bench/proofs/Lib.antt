@@ -1,5 +1,5 @@
 mod Undo
-mod Sound
+pub mod Sound
 pub mod Loops
-mod Laws
+pub mod Laws
 pub mod Keeps

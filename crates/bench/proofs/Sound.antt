@@ -131,14 +131,19 @@ leaves_ticked : (t : State) (x : Result Ticked CoreFault) → leaves t x (core.t
 leaves_ticked t (Ok x) = refl
 leaves_ticked t (Err f) = refl
 
+-- one instruction more, of a class, that came to b
+abbrev pub with_one : Run → Arch → Class → Run
+with_one r b k = record { arch = b; longs = r.longs + long k }
+
 -- what a clock comes to, from t to u
 abbrev pub TickBy : (s : Start) → ℕ → Run → State → State → Bool → Type 0
-TickBy s n r t u true = (q : Run) × (k : Class) × (stepped s.kinds r.arch ≡ went q.arch k) × Undoes s.kinds r.arch (entry t) q.arch k × Sound s (suc n) q u
+TickBy s n r t u true =
+    (b : Arch) × (k : Class) × (stepped s.kinds r.arch ≡ went b k) × Undoes s.kinds r.arch (entry t) b k × Sound s (suc n) (with_one r b k) u × (open_clocks u ≡ 0)
 TickBy s n r t u false = Sound s n r u × (open_clocks u ≡ suc (open_clocks t))
 
 abbrev pub TickOutcome : (s : Start) → ℕ → Run → State → State → Result Ticked CoreFault → Type 0
 TickOutcome s n r t u (Ok x) = TickBy s n r t u x.retired
-TickOutcome s n r t u (Err f) = (stepped s.kinds r.arch ≡ cannot f.cause) × (f.address ≡ r.arch.pc) × Sound s n r u
+TickOutcome s n r t u (Err f) = (stepped s.kinds r.arch ≡ cannot f.cause) × (f.address ≡ r.arch.pc) × Sound s n r u × (open_clocks u ≡ 0)
 
 module _ (s : Start) (n : ℕ) (r : Run) (c : Datapath) (j : List Entry) (k q g : ℕ) (there : after s.kinds s.arch n ≡ Some r)
     (owes : Owes s.kinds r.arch g c) (clk : k ≡ (3 * n + r.longs + g) % 2 ^ 64) (ret : q ≡ n % 2 ^ 64) (past : Past s j n r) (fit : Fit r.arch.words) where
@@ -147,18 +152,18 @@ module _ (s : Start) (n : ℕ) (r : Run) (c : Datapath) (j : List Entry) (k q g 
       (let t : State = record { core = c; journal = j; clocks = k; retired = q; kinds = s.kinds; words = r.arch.words } in
       TickBy s n r t (record { core = d; journal = journal_by t b; clocks = up k 1; retired = retired_by t b; kinds = s.kinds; words = W }) b)
   by_flag true d W law undo =
-      let r' : Run = record { arch = law.to; longs = r.longs + long law.by } in
       let e = entry_of s.kinds r.arch.words c in
       let cost = clocks_long law.by in
       let took : Undoes s.kinds r.arch e law.to law.by = rw law.step at undo in
       let more : (3 * suc n + (r.longs + long law.by) + 0) ≡ 3 * n + r.longs + g + 1 = omega (arith, law.clocks) in (
-        r',
+        law.to,
         law.by,
         law.step,
         took,
         rw law.stored
             (sound d (e ∷ take 255 j) (up k 1) (up q 1) 0 (ap (onward s.kinds) there ∙ ap (onward_by r) law.step) law.owes (omega arith) (omega arith)
             (n, r, law.by, refl, there, fit, took, refl, past_take s 255 j n r past) (fit_step s.kinds r.arch fit law.to law.by law.step)),
+        owes_phase s.kinds law.to 0 d law.owes,
       )
   by_flag false d W law undo =
       let here = owes_phase s.kinds r.arch g c owes in
@@ -178,6 +183,7 @@ module _ (s : Start) (n : ℕ) (r : Run) (c : Datapath) (j : List Entry) (k q g 
         law.step,
         law.at,
         rw law.kept (sound d j (down k (phase_number c.phase)) q 0 there law.owes (omega arith) ret past fit),
+        owes_phase s.kinds r.arch 0 d law.owes,
       )
 
 pub tick_law : (s : Start) (n : ℕ) (r : Run) (t : State) → Sound s n r t → TickOutcome s n r t (ticked_state t) (tick_answer t)

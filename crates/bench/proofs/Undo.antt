@@ -32,7 +32,7 @@ use Rattle.arch1.specs.Owes.{between, within, Owes, idle, fetched, decoded, load
 use Rattle.arch1.specs.Transfers.{access_in, executes, fetches, loads, stores, refuses}
 use Rattle.arch1.specs.declared.phase.Phase.TheVariants.{T2, T3}
 use Rattle.journal.specs.declared.entry.Entry.{Entry}
-use Rattle.bench.specs.Entries.{entry_of, old_register, old_bytes_in, overwritten_in_t2, overwritten_in_t3, undone_registers, undone_words}
+use Rattle.bench.specs.Entries.{entry_of, old_register, old_bytes_in, overwritten_through, overwritten_in_t2, overwritten_in_t3, undone_registers, undone_words}
 
 -- every word has 32 bits
 abbrev pub Fit : (ℕ → ℕ) → Type 0
@@ -143,7 +143,7 @@ module _ (K : ℕ → Kind) (a : Arch) (fit : Fit a.words) where
       let v = lanes.value_of s (x a rs2) address in
       let mask = lanes.mask_of s address in
       IfRetired (beat_of (answered c (cond b (stores c address (written_in (replied K a.words (cond b (access.Write k v mask) access.Nothing)))) (refuses UnalignedAddress))))
-      (Takes K a (record { address = a.pc; word = w; clocks = 3; overwritten = old_bytes_in k mask (read_of k (K k) (a.words k)) })
+      (Takes K a (record { address = a.pc; word = w; clocks = 3; overwritten = overwritten_through K a.words (cond b (access.Write k v mask) access.Nothing) })
       (machine.stores a s address (x a rs2) (cond b (machine.caused (allowed k (K k))) (Err UnalignedAddress)))))
   store_by w d r f e s rs1 rs2 imm true = rw (mask_fits s (wrap (x a rs1 + imm))) (store_back w d r f e s rs1 rs2 imm (K (wrap (x a rs1 + imm) / 4)) refl)
   store_by w d r f e s rs1 rs2 imm false = tt

@@ -1,17 +1,17 @@
 -- What the journal keeps of an instruction, and how it is taken back.
-use Rattle.std.specs.Prelude.{ℕ, ◌+◌, ◌/◌, List, Some, None, Ok, Err, Option, Result}
-use Rattle.alu.specs.Stores.{mask_of}
+use Rattle.std.specs.Prelude.{ℕ, ◌+◌, List, Some, None, Ok, Err, Option, Result}
 use Rattle.actions.specs.Actions.{action_of_word}
 use Rattle.actions.specs.declared.action.Action.{Action}
 use Rattle.actions.specs.declared.action.Action.TheVariants.{Comp, CompI, Lui, Auipc, Ld, St, Jal, Jalr, Br}
-use Rattle.machine.specs.Machine.{wrap}
 use Rattle.memory.specs.Meaning.{read_of, patched}
 use Rattle.memory.specs.declared.fault.MemoryFault.{MemoryFault}
 use Rattle.memory.specs.declared.kind.Kind.{Kind}
+use Rattle.processor.specs.declared.access.Access.{Access}
+use Rattle.processor.specs.declared.access.Access.TheVariants as access
 use Rattle.registers.specs.Registers.{put_into}
 use Rattle.arch1.specs.Datapath.{Datapath}
 use Rattle.arch1.specs.Phases.{phase_number}
-use Rattle.arch1.specs.Transfers.{x}
+use Rattle.arch1.specs.Transfers.{x, access_in}
 use Rattle.arch1.specs.declared.phase.Phase.{Phase}
 use Rattle.arch1.specs.declared.phase.Phase.TheVariants.{T0, T1, T2, T3}
 use Rattle.journal.specs.declared.entry.Entry.{Entry}
@@ -30,6 +30,12 @@ old_bytes_in k mask (Err f) = None
 abbrev pub overwritten_bytes : (ℕ → Kind) → (ℕ → ℕ) → ℕ → ℕ → Option Overwritten
 overwritten_bytes K W k mask = old_bytes_in k mask (read_of k (K k) (W k))
 
+-- what an access writes over
+abbrev pub overwritten_through : (ℕ → Kind) → (ℕ → ℕ) → Access → Option Overwritten
+overwritten_through K W access.Nothing = None
+overwritten_through K W (access.Read k) = None
+overwritten_through K W (access.Write k v mask) = overwritten_bytes K W k mask
+
 -- what a clock writes over in T2 and in T3, by the class
 abbrev pub overwritten_in_t2 : (ℕ → Kind) → (ℕ → ℕ) → Datapath → Option Action → Option Overwritten
 overwritten_in_t2 K W c None = None
@@ -38,7 +44,7 @@ overwritten_in_t2 K W c (Some (CompI op rd rs1 imm)) = old_register c rd
 overwritten_in_t2 K W c (Some (Lui rd imm)) = old_register c rd
 overwritten_in_t2 K W c (Some (Auipc rd imm)) = old_register c rd
 overwritten_in_t2 K W c (Some (Ld l rd rs1 imm)) = None
-overwritten_in_t2 K W c (Some (St s rs1 rs2 imm)) = let address = wrap (x c rs1 + imm) in overwritten_bytes K W (address / 4) (mask_of s address)
+overwritten_in_t2 K W c (Some (St s rs1 rs2 imm)) = overwritten_through K W (access_in c (Some (St s rs1 rs2 imm)))
 overwritten_in_t2 K W c (Some (Jal rd imm)) = old_register c rd
 overwritten_in_t2 K W c (Some (Jalr rd rs1 imm)) = old_register c rd
 overwritten_in_t2 K W c (Some (Br cmp rs1 rs2 imm)) = None

@@ -1,24 +1,24 @@
 ghost use Rattle.std.specs.Prelude.{◌≡◌};
-ghost use Rattle.bench.specs.Entries.{overwritten_by, overwritten_bytes};
+ghost use Rattle.bench.specs.Entries.{overwritten_by, overwritten_through};
 
 use actions::Action;
-use alu::store_lanes;
 use arch1::{Core, Phase};
 use journal::Overwritten;
 use memory::ReadMemory;
+use processor::Access;
 
-// The word as it is before a store writes the lanes of the mask.
-fn old_bytes<M: ReadMemory>(memory: &M, word: u32, mask: u8) -> Option<Overwritten>
-    ensures { result ≡ overwritten_bytes (M.ReadMemory.kinds memory.now) (M.ReadMemory.words memory.now) word mask }
+// What an access writes over: the word as it is before, and the lanes of the mask.
+fn overwritten_through<M: ReadMemory>(memory: &M, access: Access) -> Option<Overwritten>
+    ensures { result ≡ overwritten_through (M.ReadMemory.kinds memory.now) (M.ReadMemory.words memory.now) access }
 {
-    memory
-        .read(word)
-        .ok()
-        .map(|value| Overwritten::Bytes { word, value, mask })
+    let Access::Write { word, mask, .. } = access else {
+        return None;
+    };
+    let value = memory.read(word).ok()?;
+    Some(Overwritten::Bytes { word, value, mask })
 }
 
-// What the next clock writes over if it retires the instruction. The address and the lanes of a store are taken here and in the core:
-// its `access` gives none where the address is not aligned.
+// What the next clock writes over if it retires the instruction.
 pub(super) fn overwritten<M: ReadMemory>(core: &Core, memory: &M) -> Option<Overwritten>
     ensures { result ≡ overwritten_by (M.ReadMemory.kinds memory.now) (M.ReadMemory.words memory.now) core.now }
 {
@@ -33,21 +33,7 @@ pub(super) fn overwritten<M: ReadMemory>(core: &Core, memory: &M) -> Option<Over
             number: rd,
             value: core.registers.get(rd),
         }),
-        (
-            Phase::T2,
-            Some(
-                Action::St {
-                    store,
-                    rs1,
-                    rs2,
-                    immediate,
-                },
-            ),
-        ) => {
-            let address = core.registers.get(rs1).wrapping_add(immediate);
-            let lanes = store_lanes(store, core.registers.get(rs2), address);
-            old_bytes(memory, address / 4, lanes.mask)
-        }
+        (Phase::T2, Some(Action::St { .. })) => overwritten_through(memory, core.access()),
         _ => None,
     }
 }

@@ -274,7 +274,7 @@ fn as_many_as_there_are_places(rt: HostRuntime) {
     let mut program = PROGRAM;
     let mut data = bank();
     let mut places = [UNTOUCHED; 21];
-    let made = play_stacked(
+    let (_, made) = play_stacked(
         SETTINGS,
         WordBank::new(&mut program),
         WordBank::new(&mut data),

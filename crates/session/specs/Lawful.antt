@@ -19,8 +19,3 @@ pub record Lawful (s : Start) (cs : List Call) (given : List Answer) (t : State)
   pub enough : NeverShort 0 given
   pub each : (k : ℕ) → Stands s (standing 0 (take k given)) (played (fresh_of s) (take k cs))
   pub last : Stands s (standing 0 given) t
-
--- as above, whatever state the bench was left in
-pub record LawfulSomewhere (s : Start) (cs : List Call) (given : List Answer) : Type 0 where
-  pub end : State
-  pub lawful : Lawful s cs given end

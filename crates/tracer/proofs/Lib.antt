@@ -1,4 +1,3 @@
-pub mod Between
 pub mod Traces
 pub mod Turns
 pub mod New

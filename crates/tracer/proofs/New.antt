@@ -2,6 +2,7 @@
 use Rattle.std.proofs.Common.{◌≡◌, ℕ, ◌^◌, ◌<◌, Bool, true, false, cond, ltb, List, ◌++◌, Err, refl, ap, ◌∙◌, arith}
 use Rattle.memory.specs.declared.interfaces.ReadMemory.{Ghosts}
 use Rattle.registers.specs.declared.file.RegisterFile.{RegisterFile}
+use Rattle.bench.proofs.Sound.{sound_new}
 use Rattle.bench.specs.Calls.{run_answer_for, ran_for, ran_state, new_state}
 use Rattle.bench.specs.Law.{BeginsOver, start_over}
 use Rattle.bench.specs.State.{State}
@@ -11,11 +12,11 @@ use Rattle.tracer.proofs.Traces.{At, lines_are, stop_is, pc_after}
 use Rattle.tracer.specs.Steps.{stop_after, text_for, run_text, PcFits}
 use Rattle.tracer.specs.Trace.{starts, lines_from, stop_from, trace_of, last_line_of}
 
+-- the law of a new bench says here over which memory it is: by it the lemmas below are found
 module _ {M : Type 0} (m : Ghosts M) (memory : M) (rs : RegisterFile) (p limit : ℕ) (t : State)
     (law : BeginsOver m memory rs p t) (new : t ≡ new_state (m.kinds memory) (m.words memory) rs p) (fits : p < 2 ^ 32) where
   begins : At (start_over m memory rs p) 0 (record { arch = starts p rs (m.words memory); longs = 0 }) t
-  unfolding BeginsOver
-  begins = record { reached = law.reached; there = refl; closed = rw new refl; longs = omega arith; pc = fits }
+  begins = record { sound = rw new (sound_new (start_over m memory rs p)); closed = rw new refl; longs = omega arith; pc = fits }
 
   module _ (small : limit < 2 ^ 32) where
     stops : stop_after (run_answer_for 0 limit t) (ran_for limit t) ≡ stop_from (m.kinds memory) limit 0 0 (starts p rs (m.words memory))

@@ -1,7 +1,6 @@
 -- The steps of a new bench are those of the machine: their lines, and where they stop.
 use Rattle.std.proofs.Common.{◌≡◌, ℕ, zero, suc, ◌+◌, ◌*◌, ◌/◌, ◌^◌, ◌<◌, ◌≤◌, Bool, true, false, cond, List, ◌++◌, Some, None, Ok, Err, Option, Result, refl, ap, ◌∙◌, subst, arith}
 use Rattle.isa.specs.declared.mnemonic.Class.{Class}
-use Rattle.isa.specs.declared.mnemonic.Class.TheVariants as class
 use Rattle.alu.specs.Comparisons.{compared}
 use Rattle.alu.specs.declared.loads.Load.{Load}
 use Rattle.alu.specs.declared.stores.Store.{Store}
@@ -20,13 +19,13 @@ use Rattle.machine.specs.declared.cause.Cause.TheVariants.{UnalignedPc}
 use Rattle.memory.specs.Meaning.{read_of}
 use Rattle.memory.specs.declared.kind.Kind.{Kind}
 use Rattle.memory.specs.declared.kind.Kind.TheVariants.{Absent, Fixed, Open}
-use Rattle.bench.proofs.Keeps.{reached_stands}
+use Rattle.bench.proofs.Laws.{StepOutcome, step_law, long_few, stands, come_is}
+use Rattle.bench.proofs.Sound.{Sound, with_one}
 use Rattle.bench.specs.Calls.{open_clocks, step_answer, stepped_state, run_answer_on, ran_on, run_answer_for, ran_for}
-use Rattle.bench.specs.Law.{Start, Next, step_count, Reached, did_step}
+use Rattle.bench.specs.Law.{Start}
 use Rattle.bench.specs.State.{State}
 use Rattle.bench.specs.declared.answers.Stepped.{Stepped}
 use Rattle.trace_lines.specs.Lines.{step_of, stop_of}
-use Rattle.tracer.proofs.Between.{Went, went_by, cannot_by, come_is, longs_is, next_there, onward_to, none_open}
 use Rattle.tracer.specs.Steps as steps
 use Rattle.tracer.specs.Steps.{lines_for, stop_after}
 use Rattle.tracer.specs.Trace.{line_at, lines_on, lines_from, stop_on, stop_from}
@@ -81,17 +80,6 @@ module _ (K : ℕ → Kind) (a : Arch) where
   word_there : (w : ℕ) → fetched_word K a ≡ Ok w → w ≡ a.words (a.pc / 4)
   word_there w e = word_if (machine.aligned a.pc 4) w e
 
-long_few : (k : Class) → long k ≤ 1
-long_few class.Comp = omega arith
-long_few class.CompI = omega arith
-long_few class.Lui = omega arith
-long_few class.Auipc = omega arith
-long_few class.Ld = omega arith
-long_few class.St = omega arith
-long_few class.Jal = omega arith
-long_few class.Jalr = omega arith
-long_few class.Br = omega arith
-
 in_t0 : (p : Phase) → phase_number p ≡ 0 → p ≡ T0
 in_t0 T0 e = refl
 in_t0 T1 e = cc
@@ -103,8 +91,7 @@ line_same {p} {q} {u} {v} {c} {d} e f g = ap (λ (i : ℕ). step_of i u c) e ∙
 
 -- the bench in the state t is between instructions, n of which came to r
 pub record At (s : Start) (n : ℕ) (r : Run) (t : State) : Type 0 where
-  pub reached : Reached s n t
-  pub there : after s.kinds s.arch n ≡ Some r
+  pub sound : Sound s n r t
   pub closed : open_clocks t ≡ 0
   pub longs : r.longs ≤ n
   pub pc : r.arch.pc < 2 ^ 32
@@ -113,88 +100,78 @@ module _ (s : Start) where
   -- what the bench shows there
   pub shown : (n : ℕ) (r : Run) (t : State) → At s n r t → n < 2 ^ 32 → (t.core.pc ≡ r.arch.pc) × (t.retired ≡ n) × (t.clocks ≡ 3 * n + r.longs)
   shown n r t o small =
-      let all = reached_stands s n t o.reached in
-      let longs = longs_is s n t o.reached r o.there in
+      let all = stands s n r t o.sound in
+      let come = come_is s n r t o.sound in
+      let longs : all.come.longs ≡ r.longs = ap (λ (q : Run). q.longs) come in
       let ret = all.retired in let clk = all.clocks in let none = o.closed in let few = o.longs in (
-        all.pc (in_t0 t.core.phase none) ∙ ap (λ (y : Run). y.arch.pc) (come_is s n t o.reached r o.there),
+        all.pc (in_t0 t.core.phase none) ∙ ap (λ (q : Run). q.arch.pc) come,
         omega (arith, ret, small),
         omega (arith, clk, longs, none, few, small),
       )
 
+  step_there : (n : ℕ) (r : Run) (t : State) → At s n r t → StepOutcome s n r (stepped_state t) (step_answer t)
+  step_there n r t o = step_law s n r t o.sound
+
   -- after a step that was answered
-  further : (n : ℕ) (r : Run) (t : State) (y : Stepped) → At s n r t → step_answer t ≡ Ok y → (w : Went s.kinds r.arch (stepped s.kinds r.arch) y) →
-      At s (suc n) (record { arch = w.to; longs = r.longs + long w.by }) (stepped_state t)
-  further n r t y o e w =
-      let few = long_few w.by in let before = o.longs in record {
-        reached = subst (λ (m : ℕ). Reached s m (stepped_state t)) (ap (step_count n) e) (did_step n t o.reached);
-        there = onward_to s n t o.reached r o.there w.to w.by w.step;
-        closed = none_open s n t o.reached;
+  further : (n : ℕ) (r : Run) (t u : State) (y : Stepped) → At s n r t → (law : StepOutcome s n r u (Ok y)) → At s (suc n) (with_one r law.0 law.1) u
+  further n r t u y o law =
+      let few = long_few law.1 in let before = o.longs in record {
+        sound = law.4;
+        closed = law.5;
         longs = omega (arith, few, before);
-        pc = pc_step s.kinds r.arch w.to w.by w.step;
+        pc = pc_step s.kinds r.arch law.0 law.1 law.2;
       }
 
   -- after one that was refused
-  refused : (n : ℕ) (r : Run) (t : State) (f : CoreFault) → At s n r t → step_answer t ≡ Err f → At s n r (stepped_state t)
-  refused n r t f o e = record {
-    reached = subst (λ (m : ℕ). Reached s m (stepped_state t)) (ap (step_count n) e) (did_step n t o.reached);
-    there = o.there;
-    closed = none_open s n t o.reached;
-    longs = o.longs;
-    pc = o.pc;
-  }
-
-  next_by : (n : ℕ) (r : Run) (t : State) (y : Result Stepped CoreFault) → At s n r t → step_answer t ≡ y → Next s.kinds r.arch (stepped s.kinds r.arch) y
-  next_by n r t y o e = subst (Next s.kinds r.arch (stepped s.kinds r.arch)) e (next_there s n t o.reached r o.there)
+  refused : (n : ℕ) (r : Run) (t u : State) (f : CoreFault) → At s n r t → StepOutcome s n r u (Err f) → At s n r u
+  refused n r t u f o law = record { sound = law.2; closed = law.3; longs = o.longs; pc = o.pc }
 
   -- the lines
-  lines_by : (n m : ℕ) (r : Run) (t : State) (y : Result Stepped CoreFault) → At s n r t → step_answer t ≡ y →
-      ((q : Run) → At s (suc n) q (stepped_state t) → lines_for m (stepped_state t) ≡ lines_from s.kinds m q.arch) →
-      steps.lines_on y (lines_for m (stepped_state t)) ≡ lines_on r.arch (stepped s.kinds r.arch) (lines_from s.kinds m)
-  lines_by n m r t (Ok y) o e go =
-      let w = went_by s.kinds r.arch (stepped s.kinds r.arch) y (next_by n r t (Ok y) o e) in
-      let line = line_same w.address (word_there s.kinds r.arch y.word w.word) w.clocks in
-      let rest = go (record { arch = w.to; longs = r.longs + long w.by }) (further n r t y o e w) in
-      rw w.step (ap (λ (l : List ℕ). l ++ lines_for m (stepped_state t)) line ∙ ap (λ (l : List ℕ). line_at r.arch w.by ++ l) rest)
-  lines_by n m r t (Err f) o e go =
-      let stops = cannot_by s.kinds r.arch (stepped s.kinds r.arch) f (next_by n r t (Err f) o e) in rw stops refl
+  lines_by : (n m : ℕ) (r : Run) (t u : State) (y : Result Stepped CoreFault) → At s n r t → StepOutcome s n r u y →
+      ((q : Run) → At s (suc n) q u → lines_for m u ≡ lines_from s.kinds m q.arch) →
+      steps.lines_on y (lines_for m u) ≡ lines_on r.arch (stepped s.kinds r.arch) (lines_from s.kinds m)
+  lines_by n m r t u (Ok y) o law go =
+      let told = law.3 in
+      let line = line_same told.0 (word_there s.kinds r.arch y.word told.1) told.2 in
+      let rest = go (with_one r law.0 law.1) (further n r t u y o law) in
+      rw law.2 (ap (λ (l : List ℕ). l ++ lines_for m u) line ∙ ap (λ (l : List ℕ). line_at r.arch law.1 ++ l) rest)
+  lines_by n m r t u (Err f) o law go = rw law.0 refl
 
   pub lines_are : (m n : ℕ) (r : Run) (t : State) → At s n r t → lines_for m t ≡ lines_from s.kinds m r.arch
   unfolding lines_for lines_from
   lines_are zero n r t o = refl
-  lines_are (suc m) n r t o = lines_by n m r t (step_answer t) o refl (λ q next. lines_are m (suc n) q (stepped_state t) next)
+  lines_are (suc m) n r t o = lines_by n m r t (stepped_state t) (step_answer t) o (step_there n r t o) (λ q next. lines_are m (suc n) q (stepped_state t) next)
 
   -- the last line
   stop_there : (number n : ℕ) (r : Run) (t : State) → At s n r t → n < 2 ^ 32 → stop_of number t.core.pc t.retired t.clocks ≡ stop_of number r.arch.pc n (3 * n + r.longs)
   stop_there number n r t o small = let all = shown n r t o small in rw (all.0, all.1, all.2) refl
 
-  stop_by : (n m clocks : ℕ) (r : Run) (t : State) (y : Result Stepped CoreFault) → At s n r t → step_answer t ≡ y → clocks ≡ 3 * n + r.longs → n < 2 ^ 32 →
-      ((q : Run) (more : ℕ) → At s (n + 1) q (stepped_state t) → more ≡ 3 * (n + 1) + q.longs →
-      stop_after (run_answer_for (n + 1) m (stepped_state t)) (ran_for m (stepped_state t)) ≡ stop_from s.kinds m (n + 1) more q.arch) →
-      stop_after (run_answer_on n y (run_answer_for (n + 1) m (stepped_state t))) (ran_on y (stepped_state t) (ran_for m (stepped_state t)))
-      ≡ stop_on n clocks r.arch (stepped s.kinds r.arch) (stop_from s.kinds m)
-  stop_by n m clocks r t (Ok y) o e sum small go =
-      let w = went_by s.kinds r.arch (stepped s.kinds r.arch) y (next_by n r t (Ok y) o e) in
+  stop_by : (n m clocks : ℕ) (r : Run) (t u : State) (y : Result Stepped CoreFault) → At s n r t → StepOutcome s n r u y → clocks ≡ 3 * n + r.longs → n < 2 ^ 32 →
+      ((q : Run) (more : ℕ) → At s (n + 1) q u → more ≡ 3 * (n + 1) + q.longs →
+      stop_after (run_answer_for (n + 1) m u) (ran_for m u) ≡ stop_from s.kinds m (n + 1) more q.arch) →
+      stop_after (run_answer_on n y (run_answer_for (n + 1) m u)) (ran_on y u (ran_for m u)) ≡ stop_on n clocks r.arch (stepped s.kinds r.arch) (stop_from s.kinds m)
+  stop_by n m clocks r t u (Ok y) o law sum small go =
       let one : suc n ≡ n + 1 = omega arith in
-      let q : Run = record { arch = w.to; longs = r.longs + long w.by } in
-      rw w.step (go q (clocks + (3 + long w.by)) (subst (λ (k : ℕ). At s k q (stepped_state t)) one (further n r t y o e w)) (omega (arith, sum)))
-  stop_by n m clocks r t (Err f) o e sum small go =
-      let stops = cannot_by s.kinds r.arch (stepped s.kinds r.arch) f (next_by n r t (Err f) o e) in
-      rw (stops, sum) (stop_there (number_of f.cause) n r (stepped_state t) (refused n r t f o e) small)
+      let q = with_one r law.0 law.1 in
+      rw law.2 (go q (clocks + (3 + long law.1)) (subst (λ (k : ℕ). At s k q u) one (further n r t u y o law)) (omega (arith, sum)))
+  stop_by n m clocks r t u (Err f) o law sum small go = rw (law.0, sum) (stop_there (number_of f.cause) n r u (refused n r t u f o law) small)
 
   pub stop_is : (m n clocks : ℕ) (r : Run) (t : State) → At s n r t → clocks ≡ 3 * n + r.longs → n + m < 2 ^ 32 →
       stop_after (run_answer_for n m t) (ran_for m t) ≡ stop_from s.kinds m n clocks r.arch
   unfolding run_answer_for ran_for stop_from
   stop_is zero n clocks r t o sum small = rw sum (stop_there 0 n r t o (omega (arith, small)))
   stop_is (suc m) n clocks r t o sum small =
-      stop_by n m clocks r t (step_answer t) o refl sum (omega (arith, small)) (λ q more next e. stop_is m (n + 1) more q (stepped_state t) next e (omega (arith, small)))
+      stop_by n m clocks r t (stepped_state t) (step_answer t) o (step_there n r t o) sum (omega (arith, small))
+      (λ q more next e. stop_is m (n + 1) more q (stepped_state t) next e (omega (arith, small)))
 
   -- PC after a run
-  pc_by : (n m : ℕ) (r : Run) (t : State) (y : Result Stepped CoreFault) → At s n r t → step_answer t ≡ y → n < 2 ^ 32 →
-      ((q : Run) → At s (suc n) q (stepped_state t) → (ran_for m (stepped_state t)).core.pc < 2 ^ 32) → (ran_on y (stepped_state t) (ran_for m (stepped_state t))).core.pc < 2 ^ 32
-  pc_by n m r t (Ok y) o e small go = go _ (further n r t y o e (went_by s.kinds r.arch (stepped s.kinds r.arch) y (next_by n r t (Ok y) o e)))
-  pc_by n m r t (Err f) o e small go = let at = shown n r (stepped_state t) (refused n r t f o e) small in let fits = o.pc in rw at.0 fits
+  pc_by : (n m : ℕ) (r : Run) (t u : State) (y : Result Stepped CoreFault) → At s n r t → StepOutcome s n r u y → n < 2 ^ 32 →
+      ((q : Run) → At s (suc n) q u → (ran_for m u).core.pc < 2 ^ 32) → (ran_on y u (ran_for m u)).core.pc < 2 ^ 32
+  pc_by n m r t u (Ok y) o law small go = go _ (further n r t u y o law)
+  pc_by n m r t u (Err f) o law small go = let at = shown n r u (refused n r t u f o law) small in let fits = o.pc in rw at.0 fits
 
   pub pc_after : (m n : ℕ) (r : Run) (t : State) → At s n r t → n + m < 2 ^ 32 → (ran_for m t).core.pc < 2 ^ 32
   unfolding ran_for
   pc_after zero n r t o small = let at = shown n r t o (omega (arith, small)) in let fits = o.pc in rw at.0 fits
-  pc_after (suc m) n r t o small = pc_by n m r t (step_answer t) o refl (omega (arith, small)) (λ q next. pc_after m (suc n) q (stepped_state t) next (omega (arith, small)))
+  pc_after (suc m) n r t o small =
+      pc_by n m r t (stepped_state t) (step_answer t) o (step_there n r t o) (omega (arith, small)) (λ q next. pc_after m (suc n) q (stepped_state t) next (omega (arith, small)))

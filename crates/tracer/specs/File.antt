@@ -18,8 +18,8 @@ abbrev pub kinds_of : Contents → ℕ → Kind
 kinds_of file = placed_kinds (file.base / 4) (kind_in_layout Open file.image)
 
 -- the machine with its words, at its start, with all registers zero
-abbrev pub start_of : Contents → Arch
-start_of file = starts file.start (replicate 32 0) (placed_words (file.base / 4) (word_in file.image))
+abbrev pub machine_of : Contents → Arch
+machine_of file = starts file.start (replicate 32 0) (placed_words (file.base / 4) (word_in file.image))
 
 -- so much of the trace of a machine
 abbrev pub part_of : Part → (ℕ → Kind) → ℕ → Arch → List ℕ
@@ -28,5 +28,5 @@ part_of LastLine K limit a = last_line_of K limit a
 
 -- so much of the trace of a file up to its limit, or the refusal's number
 abbrev pub shown : Part → Result Contents Refusal → List ℕ
-shown part (Ok file) = part_of part (kinds_of file) file.limit (start_of file)
+shown part (Ok file) = part_of part (kinds_of file) file.limit (machine_of file)
 shown part (Err refusal) = refused_of (number_of refusal)

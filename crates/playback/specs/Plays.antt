@@ -20,7 +20,7 @@ abbrev pub bank_span : Options → Span
 bank_span o = record { from = 4 * bank_from o.ram % 2 ^ 32; length = 4 * min (bank_length o.ram) (2 ^ 30 - bank_from o.ram) }
 
 -- the calls on a new bench of the file, as many steps alone on another, and what has changed since the start of either
-abbrev pub Plays : Options → Contents → List Call → List ℕ → Type 0
+unfoldable pub Plays : Options → Contents → List Call → List ℕ → Type 0
 Plays o file cs text = Transcript (start_in o file) (start_in o file) (start_in o file) (image_span o file) (bank_span o) cs text
 
 -- what is printed for what a file and a script say

@@ -2,12 +2,13 @@ use Rattle.std.proofs.Common.{◌≡◌, string_bytes}
 use Rattle.bench.specs.Law.{Start}
 use Rattle.setup.specs.Files.{cleared, contents_in, start_in}
 use Rattle.playback.proofs.Starts.{same_start, thrice}
-use Rattle.playback.specs.Plays.{image_span, bank_span}
+use Rattle.playback.specs.Plays.{image_span, bank_span, Plays}
 use Rattle.playback.specs.Transcript.{Transcript}
 use Rattle.playback.proofs.file.play.Goals as goal
 
 -- each memory was loaded from the file
 pub returns : goal.returns
+unfolding Plays
 returns c =
     let o = c.args.options in
     let file = contents_in c.args.file in

@@ -1,4 +1,4 @@
-ghost use Rattle.std.specs.Prelude.{IfOk, string_bytes};
+ghost use Rattle.std.specs.Prelude.{◌≡◌, IfOk, string_bytes};
 ghost use Rattle.bench.specs.Law.{start_over};
 ghost use Rattle.playback.specs.Transcript.{Transcript};
 ghost use Rattle.setup.specs.Files.{cleared};
@@ -10,6 +10,13 @@ use registers::RegisterFile;
 use script::with_looks;
 use session::{Answer, Call, replay};
 use std::alloc::{AllocError, Global};
+
+// The registers that a bench starts with.
+fn cleared_registers() -> RegisterFile
+    ensures { result ≡ cleared }
+{
+    RegisterFile::new([0; 32])
+}
 
 /// Plays calls on a new bench over a memory, each with looks after it, runs the instructions that stand on another one over its twin,
 /// and tells all of it. What has changed is told against a fresh memory.
@@ -26,7 +33,7 @@ pub fn play_over<M: WriteMemory + Drop, S: WriteMemory + Drop, F: WriteMemory + 
 {
     let watched = with_looks(heap, calls)?;
     let mut answers = vec![in heap; Answer::Looked(Ok(0)); watched.len()]?;
-    let zero = RegisterFile::new([0; 32]);
+    let zero = cleared_registers();
     let replayed = replay(memory, twin, zero, start, &watched, answers.as_mut_slice());
     let fresh = Bench::new(fresh, zero, start);
     tell(

@@ -33,6 +33,6 @@ returns g c =
     (search rules)
     (search rules)
     (lent_whole _ _ was given (search rules) c.deref-2.ensures.value)
-    (rw (c.new-zero.ensures, c.deref.ensures.value) at made.ensures.law) in
+    (rw (c.cleared_registers-zero.ensures, c.deref.ensures.value) at made.ensures.law) in
     IfOk-weaker c.tell.result (λ x. string_bytes x ≡ whole_text c.args.calls.now given made.result.standing (state_text image bank t f) (state_text image bank u f))
     (λ x. Transcript s twin start image bank c.args.calls.now (string_bytes x)) (λ x e. tells s twin start image bank c.args.calls.now given made.result.standing t u f (string_bytes x) law (search rules) e) c.tell.ensures

@@ -1,6 +1,7 @@
 -- A conversation: the lines of a text answered one after another, up to one that ends it.
 use Rattle.std.specs.Prelude.{◌≡◌, ℕ, Bool, true, if◌then◌else◌, List, [], ◌∷◌, ◌++◌, Some, None, Option}
 use Rattle.std.specs.Io.KnownBytes.{Appends}
+use Rattle.bench.specs.Law.{Kept}
 use Rattle.bench.specs.State.{State}
 use Rattle.commands.specs.Lines.{lines}
 use Rattle.conversation.specs.Replies.{reply, state_after}
@@ -32,3 +33,8 @@ pub record Turn (more : Bool) (s t : State) (bytes : List ℕ) (left before afte
   pub wrote : Appends before after sent
   pub says : conversation s (lines bytes) ≡ sent ++ (if more then conversation t (lines rest) else [])
   pub leads : led_to s (lines bytes) ≡ (if more then led_to t (lines rest) else t)
+
+-- whatever calls came before s, the law stands in t too, some calls later; the count says how these moved the instructions that stand
+pub record StaysLawful (s t : State) : Type 0 where
+  pub count : ℕ → ℕ
+  pub kept : Kept count s t

@@ -2,7 +2,7 @@ ghost use Rattle.std.specs.Prelude.{◌≡◌, IfOk, OnOk, IfSome};
 ghost use Rattle.std.specs.Io.KnownBytes.{Appends};
 ghost use Rattle.bench.specs.State.{state_of};
 ghost use Rattle.commands.specs.Lines.{lines};
-ghost use Rattle.conversation.specs.Conversations.{conversation, led_to, Turn};
+ghost use Rattle.conversation.specs.Conversations.{conversation, led_to, StaysLawful, Turn};
 
 use super::reply::reply_to;
 use bench::Bench;
@@ -13,13 +13,15 @@ use std::io;
 use std::io::{BufRead, Write};
 
 // Reads a line and answers it at once. False where the conversation ends: the line says so, or there is none.
+#[tactic(auto, using(crate::proofs::Kept::stays_same, crate::proofs::Kept::stays_by_line))]
 fn turn<M: WriteMemory, R: BufRead, W: Write>(
     heap: Global,
     bench: &mut Bench<M>,
     input: &mut R,
     output: &mut W,
 ) -> io::Result<bool>
-    ensures { IfOk result (λ more. IfSome (R.Read.remaining input.old) (λ bytes. Turn more (state_of M.ReadMemory bench.old) (state_of M.ReadMemory bench.new) bytes (R.Read.remaining input.new) (W.contents output.old) (W.contents output.new))) }
+    ensures said { IfOk result (λ more. IfSome (R.Read.remaining input.old) (λ bytes. Turn more (state_of M.ReadMemory bench.old) (state_of M.ReadMemory bench.new) bytes (R.Read.remaining input.new) (W.contents output.old) (W.contents output.new))) }
+    ensures law { StaysLawful (state_of M.ReadMemory bench.old) (state_of M.ReadMemory bench.new) }
 {
     let mut raw = Vec::new(heap);
     input.read_until(b'\n', &mut raw)?;
@@ -35,6 +37,8 @@ fn turn<M: WriteMemory, R: BufRead, W: Write>(
 }
 
 /// Reads lines and answers each at once, up to one that ends the conversation or to the end of the input. After 2^64 - 1 lines it gives up.
+/// The law stands whatever comes of it, an `Err` too. What was sent before an `Err`, a writer does not say.
+#[tactic(auto, using(crate::proofs::Kept::stays_on))]
 pub fn converse<M: WriteMemory, R: BufRead, W: Write>(
     heap: Global,
     bench: &mut Bench<M>,
@@ -43,6 +47,7 @@ pub fn converse<M: WriteMemory, R: BufRead, W: Write>(
 ) -> io::Result<()>
     ensures sent { OnOk result (IfSome (R.Read.remaining input.old) (λ bytes. Appends (W.contents output.old) (W.contents output.new) (conversation (state_of M.ReadMemory bench.old) (lines bytes)))) }
     ensures led { OnOk result (IfSome (R.Read.remaining input.old) (λ bytes. state_of M.ReadMemory bench.new ≡ led_to (state_of M.ReadMemory bench.old) (lines bytes))) }
+    ensures law { StaysLawful (state_of M.ReadMemory bench.old) (state_of M.ReadMemory bench.new) }
 {
     for _ in 0..u64::MAX {
         if !turn(heap, bench, input, output)? {

@@ -4,15 +4,12 @@ ghost use Rattle.benchfile.specs.Views.{file_read};
 ghost use Rattle.conversation.specs.Files.{SentOver};
 
 use super::exchange::converse;
-use bench::Bench;
 use benchfile::BenchFile;
-use registers::RegisterFile;
 use report::RefusedLine;
-use setup::Options;
+use setup::{Options, Storage};
 use std::alloc::Global;
 use std::io;
 use std::io::{BufRead, Write};
-use stores::{ByteImage, WordBank};
 
 // A conversation over a bench file: registers zero, PC at the file's start, its image placed at its base.
 fn open<R: BufRead, W: Write>(
@@ -24,15 +21,8 @@ fn open<R: BufRead, W: Write>(
 ) -> io::Result<()>
     ensures { OnOk result (SentOver (file_read (Ok file.entry)) options (R.Read.remaining input.old) (W.contents output.old) (W.contents output.new)) }
 {
-    // The image as bytes of its own, which calls may write.
-    let mut image = file.image.to_vec(heap)?;
-    let mut bank = vec![in heap; 0u32; options.bank_words() as usize]?;
-    let memory = options.map(
-        file.base / 4,
-        ByteImage::new(image.as_mut_slice()),
-        WordBank::new(bank.as_mut_slice()),
-    );
-    let mut bench = Bench::new(memory, RegisterFile::new([0; 32]), file.start);
+    let mut storage = Storage::new(heap);
+    let mut bench = storage.bench(file, options)?;
     converse(heap, &mut bench, input, output)
 }
 

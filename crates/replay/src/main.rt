@@ -2,15 +2,8 @@
 
 #![tactic(auto)]
 
-mod calls;
-mod lines;
-mod output;
-mod playing;
-mod states;
-mod whole;
-
 use benchfile::read_input;
-use output::output;
+use playback::output;
 use setup::{UnreadableLine, UsageLine, read_arguments};
 use std::io::{Read, Write};
 use std::{env, fs, io};

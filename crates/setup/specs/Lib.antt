@@ -1,4 +1,5 @@
 pub mod Options
 pub mod Map
+pub mod Files
 pub mod Views
 pub mod Lines

@@ -5,7 +5,9 @@
 mod lines;
 mod memory_map;
 mod options;
+mod storage;
 
 pub use lines::{UnreadableLine, UsageLine};
 pub use memory_map::Map;
 pub use options::{Arguments, Options, Ram, WordRange, read_arguments, read_options};
+pub use storage::Storage;

@@ -1,0 +1,4 @@
+mod Growing
+mod Telling
+mod Alike
+mod Starts

@@ -1,0 +1,5 @@
+pub mod Lines
+pub mod States
+pub mod Whole
+pub mod Transcript
+pub mod Plays

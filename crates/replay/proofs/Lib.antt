@@ -1,3 +1,0 @@
-mod Growing
-mod Telling
-mod Alike

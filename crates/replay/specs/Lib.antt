@@ -1,5 +1,0 @@
-pub mod Lines
-pub mod States
-pub mod Whole
-pub mod Tells
-pub mod Plays

@@ -1,5 +1,5 @@
 ghost use Rattle.std.specs.Prelude.{Some};
-ghost use Rattle.rv32ui.specs.Lines.{count_of};
+ghost use Rattle.rv32ui.specs.Lines.{count_of, seen_text, failure_of};
 
 use rv32ui_cases::{Calls, Over, Seen};
 use std::fmt;
@@ -31,6 +31,8 @@ struct Shown {
 }
 
 impl fmt::Display for Shown {
+    ghost output = { λ s. Some (seen_text s.register s.seen) };
+
     fn fmt<W: fmt::Write>(&self, f: &mut fmt::Formatter<W>) -> fmt::Result {
         let register = self.register;
         let number = self.seen.register;
@@ -58,6 +60,8 @@ pub struct FailureLine {
 }
 
 impl fmt::Display for FailureLine {
+    ghost output = { λ l. Some (failure_of l.name.now l.case l.over l.calls l.register l.came l.expected) };
+
     fn fmt<W: fmt::Write>(&self, f: &mut fmt::Formatter<W>) -> fmt::Result {
         let name = self.name;
         let case = self.case;

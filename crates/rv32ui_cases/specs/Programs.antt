@@ -32,7 +32,7 @@ put_skipped i p = record p { words = with_word p.end (word_of i) p.words; end = 
 
 -- an instruction at the end, which it runs
 unfoldable pub put : Instruction → Program → Program
-put i p = record p { words = with_word p.end (word_of i) p.words; end = (p.end + 4) % 2 ^ 32; counts = counted (row_of i.mnemonic).class p.runs p.counts }
+put i p = record (put_skipped i p) { counts = counted (row_of i.mnemonic).class p.runs p.counts }
 
 -- a number as the upper twenty bits that LUI and AUIPC take, and as what ADDI then adds
 abbrev pub low_of : ℕ → ℕ
@@ -102,8 +102,10 @@ looped steps p = again (twice p).end (in_turn steps (twice p))
 abbrev pub delay_slot : ℕ → ℕ → Program → Program
 delay_slot r skipped = in_turn (times skipped (put_skipped (addi r r (pos 1))) ∷ times (6 - skipped) (put (addi r r (pos 1))) ∷ [])
 
+-- no instruction yet: the program is about x3, which is to hold the case's number
+unfoldable pub blank : ℕ → Mnemonic → Program
+blank number m = record { words = replicate 64 0; mnemonic = m; counts = record { instructions = 0; clocks = 0 }; register = 3; value = number; end = 0; runs = 0 }
+
 -- what every case begins with: a jump to itself, which is not run, and its number in x3
 unfoldable pub opening : ℕ → Mnemonic → Program
-opening number m =
-    let blank : Program = record { words = replicate 64 0; mnemonic = m; counts = record { instructions = 0; clocks = 0 }; register = 3; value = number; end = 0; runs = 0 } in
-    li 3 number (record (put (jal 0 (pos 0)) blank) { runs = 1 })
+opening number m = li 3 number (record (put (jal 0 (pos 0)) (blank number m)) { runs = 1 })

@@ -1,7 +1,7 @@
 ghost use Rattle.std.specs.Prelude.{◌≡◌, pos};
 ghost use Rattle.std.specs.Int.{cast_signed, w32};
 ghost use Rattle.arch1.specs.Owes.{clocks_of_class};
-ghost use Rattle.rv32ui_cases.specs.Programs.{counted, in_data, offset, low_of, high_of, opening, put, put_skipped, li, la, nops, ahead, to_fail, check, times, twice, again, delay_slot};
+ghost use Rattle.rv32ui_cases.specs.Programs.{counted, in_data, offset, low_of, high_of, blank, opening, put, put_skipped, li, la, nops, ahead, to_fail, check, times, twice, again, delay_slot};
 ghost use Rattle.rv32ui_cases.specs.Words.{word_of};
 
 use super::instructions::{addi, bne, jal, upper};
@@ -99,12 +99,12 @@ impl Counts {
 }
 
 impl Program {
-    // What every case begins with: its number in x3.
-    #[tactic(auto, unfolding(crate::specs::Programs::opening))]
-    pub(super) fn new(number: u8, mnemonic: Mnemonic) -> Program
-        ensures { result ≡ opening number mnemonic }
+    // No instruction yet.
+    #[tactic(auto, unfolding(crate::specs::Programs::blank))]
+    fn blank(number: u8, mnemonic: Mnemonic) -> Program
+        ensures { result ≡ blank number mnemonic }
     {
-        let mut program = Program {
+        Program {
             words: [0; WORDS],
             mnemonic,
             counts: Counts {
@@ -115,35 +115,42 @@ impl Program {
             value: u32::from(number),
             end: 0,
             runs: 0,
-        };
+        }
+    }
+
+    // What every case begins with: its number in x3.
+    #[tactic(auto, unfolding(crate::specs::Programs::opening))]
+    pub(super) fn new(number: u8, mnemonic: Mnemonic) -> Program
+        ensures { result ≡ opening number mnemonic }
+    {
+        let mut program = Program::blank(number, mnemonic);
         program.put(jal(0, 0));
         program.runs = 1;
         program.li(3, u32::from(number));
         program
     }
 
-    // Puts an instruction at the end. Where there is no place for it, the program does not pass: its path is not all there.
-    #[tactic(auto, unfolding(crate::specs::Programs::put))]
-    pub(super) fn put(&mut self, instruction: Instruction)
-        ensures { self.new ≡ put instruction self.old }
+    // Puts an instruction at the end, which the published path jumps over. Where there is no place for one, the program does not pass:
+    // its path is not all there.
+    #[tactic(auto, unfolding(crate::specs::Programs::put_skipped))]
+    pub(super) fn put_skipped(&mut self, instruction: Instruction)
+        ensures { self.new ≡ put_skipped instruction self.old }
     {
         let k = (self.end / 4) as usize;
         if k < WORDS {
             self.words[k] = word_of(&instruction);
         }
         self.end = self.end.wrapping_add(4);
-        self.counts = self.counts.with(instruction.mnemonic.class(), self.runs);
     }
 
-    // Puts an instruction that the published path jumps over.
-    #[tactic(auto, unfolding(crate::specs::Programs::put, crate::specs::Programs::put_skipped))]
-    pub(super) fn put_skipped(&mut self, instruction: Instruction)
-        ensures { self.new ≡ put_skipped instruction self.old }
+    // Puts an instruction that it runs.
+    #[tactic(auto, unfolding(crate::specs::Programs::put))]
+    pub(super) fn put(&mut self, instruction: Instruction)
+        ensures { self.new ≡ put instruction self.old }
     {
-        let runs = self.runs;
-        self.runs = 0;
-        self.put(instruction);
-        self.runs = runs;
+        let counts = self.counts.with(instruction.mnemonic.class(), self.runs);
+        self.put_skipped(instruction);
+        self.counts = counts;
     }
 
     // Loads a number.

@@ -1,6 +1,7 @@
 -- The lines of the report. Byte 10 ends each.
 use Rattle.std.specs.Prelude.{ℕ, List, ◌++◌, codes, decimal, false}
 use Rattle.std.specs.Fmt.{digits}
+use Rattle.rv32ui_cases.specs.declared.program.Counts.{Counts}
 use Rattle.rv32ui_cases.specs.declared.running.Calls.{Calls}
 use Rattle.rv32ui_cases.specs.declared.running.Calls.TheVariants.{Steps, Ticks}
 use Rattle.rv32ui_cases.specs.declared.running.Over.{Over}
@@ -12,14 +13,17 @@ abbrev pub count_of : List ℕ → ℕ → ℕ → List ℕ
 count_of name passed cases = name ++ (codes " " ++ (decimal passed ++ (codes " of " ++ (decimal cases ++ codes "\n"))))
 
 -- a number in lower-case hexadecimal digits, without leading zeros
-abbrev pub hexadecimal : ℕ → List ℕ
+unfoldable pub hexadecimal : ℕ → List ℕ
 hexadecimal n = codes "0x" ++ digits 16 false n
+
+-- how many instructions retired, in how many clocks
+abbrev pub counts_text : Counts → List ℕ
+counts_text n = decimal n.instructions ++ (codes " instructions, " ++ (decimal n.clocks ++ codes " clocks"))
 
 -- what a bench shows, with the number of the case's register
 abbrev pub seen_text : ℕ → Seen → List ℕ
 seen_text register s =
-    codes "x" ++ (decimal register ++ (codes " = " ++ (hexadecimal s.register ++ (codes ", PC = " ++ (hexadecimal s.pc ++ (codes " in T" ++ (decimal s.phase
-    ++ (codes ", " ++ (decimal s.counts.instructions ++ (codes " instructions, " ++ (decimal s.counts.clocks ++ codes " clocks")))))))))))
+    codes "x" ++ (decimal register ++ (codes " = " ++ (hexadecimal s.register ++ (codes ", PC = " ++ (hexadecimal s.pc ++ (codes " in T" ++ (decimal s.phase ++ (codes ", " ++ counts_text s.counts))))))))
 
 abbrev pub over_text : Over → List ℕ
 over_text ByteImage = codes "a byte image"

@@ -16,13 +16,13 @@ immediate m rd rs1 z = record { mnemonic = m; rd = rd; rs1 = rs1; rs2 = 0; immed
 abbrev pub store : Mnemonic → ℕ → ℤ → ℕ → Instruction
 store m rs2 z rs1 = record { mnemonic = m; rd = 0; rs1 = rs1; rs2 = rs2; immediate = z }
 
--- by rs1 and rs2, to an offset
+-- by rs1 and rs2, to an offset: the operands of a store
 abbrev pub branch : Mnemonic → ℕ → ℕ → ℤ → Instruction
-branch m rs1 rs2 z = record { mnemonic = m; rd = 0; rs1 = rs1; rs2 = rs2; immediate = z }
+branch m rs1 rs2 z = store m rs2 z rs1
 
 -- rd and a number: LUI, AUIPC and JAL
 abbrev pub upper : Mnemonic → ℕ → ℤ → Instruction
-upper m rd z = record { mnemonic = m; rd = rd; rs1 = 0; rs2 = 0; immediate = z }
+upper m rd z = immediate m rd 0 z
 
 abbrev pub addi : ℕ → ℕ → ℤ → Instruction
 addi rd rs1 z = immediate Addi rd rs1 z

@@ -41,14 +41,16 @@ low_of n = extended 12 (field 0 12 n)
 abbrev pub high_of : ℕ → ℕ
 high_of n = (n + (2 ^ 32 - low_of n)) % 2 ^ 32
 
+-- a number by its two parts, of which the instruction m puts the upper one into the register, or adds it to PC
+unfoldable pub put_parts : Mnemonic → ℕ → ℕ → Program → Program
+put_parts m rd n p = put (addi rd rd (cast_signed w32 (low_of n))) (put (upper m rd (pos (high_of n))) p)
+
 -- loads a number, and the address of a place
-unfoldable pub li : ℕ → ℕ → Program → Program
-li rd n p = put (addi rd rd (cast_signed w32 (low_of n))) (put (upper Lui rd (pos (high_of n))) p)
+abbrev pub li : ℕ → ℕ → Program → Program
+li = put_parts Lui
 
 unfoldable pub la : ℕ → ℕ → Program → Program
-la rd place p =
-    let n = (place + (2 ^ 32 - p.end)) % 2 ^ 32 in
-    put (addi rd rd (cast_signed w32 (low_of n))) (put (upper Auipc rd (pos (high_of n))) p)
+la rd place p = put_parts Auipc rd ((place + (2 ^ 32 - p.end)) % 2 ^ 32) p
 
 -- a step so many times
 unfoldable pub times : ℕ → (Program → Program) → Program → Program

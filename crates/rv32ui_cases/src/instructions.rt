@@ -44,30 +44,18 @@ pub(super) fn store(mnemonic: Mnemonic, rs2: u8, offset: i64, rs1: u8) -> Instru
     }
 }
 
-/// By rs1 and rs2, to an offset.
+/// By rs1 and rs2, to an offset: the operands of a store.
 pub(super) fn branch(mnemonic: Mnemonic, rs1: u8, rs2: u8, offset: i64) -> Instruction
     ensures { result ≡ branch mnemonic rs1 rs2 offset }
 {
-    Instruction {
-        mnemonic,
-        rd: 0,
-        rs1,
-        rs2,
-        immediate: offset,
-    }
+    store(mnemonic, rs2, offset, rs1)
 }
 
 /// rd and a number: LUI, AUIPC and JAL.
-pub(super) fn upper(mnemonic: Mnemonic, rd: u8, immediate: i64) -> Instruction
-    ensures { result ≡ upper mnemonic rd immediate }
+pub(super) fn upper(mnemonic: Mnemonic, rd: u8, number: i64) -> Instruction
+    ensures { result ≡ upper mnemonic rd number }
 {
-    Instruction {
-        mnemonic,
-        rd,
-        rs1: 0,
-        rs2: 0,
-        immediate,
-    }
+    immediate(mnemonic, rd, 0, number)
 }
 
 /// ADDI.

@@ -1,7 +1,7 @@
 ghost use Rattle.std.specs.Prelude.{◌≡◌, pos};
 ghost use Rattle.std.specs.Int.{cast_signed, w32};
 ghost use Rattle.arch1.specs.Owes.{clocks_of_class};
-ghost use Rattle.rv32ui_cases.specs.Programs.{counted, in_data, offset, low_of, high_of, blank, opening, put, put_skipped, li, la, nops, ahead, to_fail, check, times, twice, again, delay_slot};
+ghost use Rattle.rv32ui_cases.specs.Programs.{counted, in_data, offset, low_of, high_of, blank, opening, put, put_skipped, put_parts, li, la, nops, ahead, to_fail, check, times, twice, again, delay_slot};
 ghost use Rattle.rv32ui_cases.specs.Words.{word_of};
 
 use super::instructions::{addi, bne, jal, upper};
@@ -153,14 +153,21 @@ impl Program {
         self.counts = counts;
     }
 
+    // Puts a number by its two parts, the upper one by this instruction.
+    #[tactic(auto, unfolding(crate::specs::Programs::put_parts))]
+    fn put_parts(&mut self, mnemonic: Mnemonic, rd: u8, number: u32)
+        ensures { self.new ≡ put_parts mnemonic rd number self.old }
+    {
+        let (high, low) = split(number);
+        self.put(upper(mnemonic, rd, high));
+        self.put(addi(rd, rd, low));
+    }
+
     // Loads a number.
-    #[tactic(auto, unfolding(crate::specs::Programs::li))]
     pub(super) fn li(&mut self, rd: u8, number: u32)
         ensures { self.new ≡ li rd number self.old }
     {
-        let (high, low) = split(number);
-        self.put(upper(Mnemonic::Lui, rd, high));
-        self.put(addi(rd, rd, low));
+        self.put_parts(Mnemonic::Lui, rd, number);
     }
 
     // Loads the address of a place.
@@ -168,9 +175,7 @@ impl Program {
     pub(super) fn la(&mut self, rd: u8, place: u32)
         ensures { self.new ≡ la rd place self.old }
     {
-        let (high, low) = split(place.wrapping_sub(self.end));
-        self.put(upper(Mnemonic::Auipc, rd, high));
-        self.put(addi(rd, rd, low));
+        self.put_parts(Mnemonic::Auipc, rd, place.wrapping_sub(self.end));
     }
 
     // Puts an instruction so many times.

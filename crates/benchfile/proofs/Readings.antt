@@ -1,14 +1,13 @@
 -- What the reader answers is what the bytes are.
-use Rattle.std.proofs.Common.{◌≡◌, ℕ, zero, suc, ◌+◌, ◌*◌, ◌/◌, ◌%◌, ◌^◌, ◌<◌, ◌≤◌, Bool, true, false, eqb, leb, List, [], ◌∷◌, ◌++◌, length, get_or, map, drop, Ok, Err, Result, sym, refl, ap, ◌∙◌, subst, mod-eq_of_lt, arith}
-use native.Mathlib.Nat.{div-div-eq-div-mul}
+use Rattle.std.proofs.Common.{◌≡◌, ℕ, zero, suc, ◌+◌, ◌*◌, ◌/◌, ◌%◌, ◌^◌, ◌<◌, ◌≤◌, Bool, true, false, eqb, leb, List, [], ◌∷◌, ◌++◌, length, get_or, map, drop, Ok, Err, Result, sym, refl, ap, ◌∙◌, subst, arith}
 use Rattle.std.specs.List.{range_with_len}
 use Rattle.std.proofs.lemmas.List.{drop_more}
 use Rattle.std.proofs.lemmas.Bool.{le-leb, false≢true}
 use Rattle.std.proofs.lemmas.Bool.Decides.{nat_tests}
 use Rattle.benchfile.specs.declared.refusals.Refusal.{Refusal}
 use Rattle.benchfile.specs.declared.refusals.Refusal.TheVariants.{NotBenchFile, Version, Header, Limit}
-use Rattle.benchfile.specs.Format.{Contents, Layout, and_then, checked, clear, file_of, fits, half_at, judged, laid_out, marked, provided, word_at}
-use Rattle.benchfile.specs.Header.{bytes_of, header_of}
+use Rattle.benchfile.specs.Format.{Contents, and_then, checked, clear, file_of, fits, half_at, judged, laid_out, marked, provided, word_at}
+use Rattle.benchfile.specs.Header.{bytes_of}
 use Rattle.benchfile.specs.Laws.{Begins, Holds, Judges, mark, mark_and_version}
 use Rattle.benchfile.specs.Laws.Judges.{accepted, unlimited, empty, other_version, unmarked}
 use Rattle.benchfile.proofs.Headers.{gets_the_verdict}

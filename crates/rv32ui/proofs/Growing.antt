@@ -1,5 +1,5 @@
 -- A report grows line by line.
-use Rattle.std.proofs.Common.{◌≡◌, ℕ, ◌+◌, ◌%◌, ◌^◌, ◌<◌, ◌≤◌, cond, arith, Bool, true, false, ◌&&◌, List, [], ◌∷◌, ◌++◌, get_or, length, take, refl, sym, ap, ◌∙◌, append_assoc}
+use Rattle.std.proofs.Common.{◌≡◌, ℕ, ◌+◌, ◌%◌, ◌^◌, ◌<◌, ◌≤◌, cond, arith, Bool, true, false, List, [], ◌++◌, get_or, length, take, refl, sym, ap, ◌∙◌}
 use mir.Val.{bool_byte}
 use Rattle.std.specs.List.{count_by, flat_map, sum_by}
 use Rattle.std.proofs.lemmas.List.Sums.{sum_by_more}

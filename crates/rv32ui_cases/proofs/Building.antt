@@ -1,5 +1,5 @@
 -- Instructions that are put several times.
-use Rattle.std.proofs.Common.{◌≡◌, ℕ, zero, suc, ◌+◌, refl, ap, arith}
+use Rattle.std.proofs.Common.{◌≡◌, ℕ, suc, ◌+◌, refl, ap, arith}
 use Rattle.isa.specs.declared.instruction.Instruction.{Instruction}
 use Rattle.rv32ui_cases.specs.Programs.{put, put_skipped, times}
 use Rattle.rv32ui_cases.specs.declared.program.Program.{Program}

@@ -6,13 +6,12 @@ use Rattle.std.proofs.lemmas.Bool.{cases_lt, false≢true}
 use Rattle.std.proofs.lemmas.Bool.Decides.{Decides-eqb, Decides-int_eq}
 use Rattle.bits.specs.Field.{field}
 use Rattle.isa.specs.Fitting.{Fits}
-use Rattle.isa.specs.Reading.{Reads, in_format, rd_of, rs1_of, rs2_of}
+use Rattle.isa.specs.Reading.{Reads, rd_of, rs1_of, rs2_of}
 use Rattle.isa.specs.Immediates.{immediate_of}
 use Rattle.isa.specs.Decoding.{selects}
 use Rattle.isa.specs.Refusals.{number_of}
 use Rattle.isa.specs.Table.{row_of}
 use Rattle.isa.specs.declared.instruction.Instruction.{Instruction}
-use Rattle.isa.specs.declared.mnemonic.Format.{Format}
 use Rattle.isa.specs.declared.refusal.Refusal.{Refusal}
 use Rattle.isa.proofs.Selecting.{agrees_holds, holds_agrees}
 use Rattle.rv32ui_cases.specs.Words.{highest_below, operands_are, reads_as, word_of}

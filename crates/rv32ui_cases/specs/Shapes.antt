@@ -1,12 +1,12 @@
 -- What each published macro puts into a program, step by step: the macro of the instruction m.
-use Rattle.std.specs.Prelude.{ℕ, ◌+◌, ◌*◌, ◌%◌, ◌^◌, List, [], ◌∷◌, ℤ, pos, negsuc}
+use Rattle.std.specs.Prelude.{ℕ, ◌+◌, ◌*◌, ◌%◌, ◌^◌, [], ◌∷◌, ℤ, pos, negsuc}
 use Rattle.std.specs.Int.{cast_signed, cast_unsigned, w32}
 use Rattle.bits.specs.Field.{field}
 use Rattle.bits.specs.Sign.{extended}
 use Rattle.isa.specs.declared.mnemonic.Mnemonic.{Mnemonic}
 use Rattle.isa.specs.declared.mnemonic.Mnemonic.TheVariants.{Srai, Sub}
 use Rattle.rv32ui_cases.specs.Instructions.{addi, bne, branch, immediate, jal, register, store, upper}
-use Rattle.rv32ui_cases.specs.Programs.{ahead, again, check, delay_slot, failing, in_data, in_turn, la, li, looped, nops, put, put_skipped, twice}
+use Rattle.rv32ui_cases.specs.Programs.{ahead, check, delay_slot, failing, in_data, in_turn, la, li, looped, nops, put, put_skipped}
 use Rattle.rv32ui_cases.specs.declared.program.Program.{Program}
 use Rattle.rv32ui_cases.specs.declared.shapes.branch_cases.Branch.{Branch}
 use Rattle.rv32ui_cases.specs.declared.shapes.branch_cases.Branch.TheVariants as br

@@ -1,4 +1,4 @@
-use Rattle.std.proofs.Common.{◌≡◌, ◌<◌, ◌≤◌, ℕ, Bool, List, ◌++◌, arith, ap, sym, ◌∙◌, get_or, length, string_bytes, take}
+use Rattle.std.proofs.Common.{◌<◌, ◌≤◌, ℕ, ◌++◌, ap, sym, ◌∙◌, get_or, length, string_bytes}
 use Rattle.std.specs.List.{list_all, flat_map}
 use Rattle.std.proofs.lemmas.List.{take_all}
 use Rattle.std.proofs.lemmas.List.Folds.{list_all_more}

@@ -1,4 +1,4 @@
-use Rattle.std.proofs.Common.{◌≡◌, arith}
+use Rattle.std.proofs.Common.{arith}
 use Rattle.rv32ui.specs.Report.{case_passes, case_text}
 use Rattle.rv32ui.proofs.Growing.{at_most_one, one_more_counted, one_more_line}
 use Rattle.rv32ui.proofs.report.run.Goals as goal

@@ -71,10 +71,10 @@ impl fmt::Display for LookRefusal {
     fn fmt<W: fmt::Write>(&self, f: &mut fmt::Formatter<W>) -> fmt::Result {
         let number = self.0.number();
         match self.0 {
-            LookFault::Memory(MemoryFault { word, .. }) => write!(
-                f,
-                "refused {number} word {word}"
-            ),
+            LookFault::Memory(fault) => {
+                let word = WordGiven(Cause::Memory(fault));
+                write!(f, "refused {number}{word}")
+            }
             LookFault::NoRegister => write!(f, "refused {number}"),
         }
     }

@@ -1,3 +1,4 @@
 pub mod Headers
 pub mod FirstBytes
 pub mod Inputs
+pub mod Readings

@@ -1,6 +1,6 @@
 ghost use Rattle.std.specs.Prelude.{◌≡◌};
 ghost use Rattle.benchfile.specs.Format.{checked, fields_of, file_of};
-ghost use Rattle.benchfile.specs.Laws.{WholeWords};
+ghost use Rattle.benchfile.specs.Laws.{Judges, WholeWords};
 ghost use Rattle.benchfile.specs.Views.{fields_in, fields_read, file_read};
 
 use super::file::{BenchFile, LONGEST_IMAGE, VERSION};
@@ -115,8 +115,10 @@ fn judge<'a>(fields: Fields<'a>) -> Result<BenchFile<'a>, Refusal>
 ///
 /// Bytes that are no bench file are refused, with the first check that fails: the length and the
 /// mark, the version, the rest of the header, the instruction limit.
+#[tactic(auto, using(crate::proofs::Readings::judges))]
 pub fn read<'a>(bytes: &'a [u8]) -> Result<BenchFile<'a>, Refusal>
     ensures value { file_read result ≡ file_of bytes.now }
+    ensures law { Judges bytes.now (file_read result) }
     ensures whole { WholeWords (file_read result) }
 {
     judge(take_apart(bytes)?)

@@ -5,19 +5,19 @@ use setup::{Options, Ram, WordRange};
 use std::alloc::Global;
 
 /// No shield and no bank.
-pub const PLAIN: Options = Options {
+pub(super) const PLAIN: Options = Options {
     shield: None,
     ram: None,
 };
 
 /// Words 1 and 2 are shielded, and a bank of two words begins at word 4.
-pub const GUARDED: Options = Options {
+pub(super) const GUARDED: Options = Options {
     shield: Some(WordRange { from: 1, to: 3 }),
     ram: Some(Ram { at: 4, words: 2 }),
 };
 
 /// addi x1, x0, 5, sw x1, 16(x0), lb x2, 16(x0), beq x1, x2, 8 and a word that is no instruction.
-pub const WORKED: [u32; 5] = [
+pub(super) const WORKED: [u32; 5] = [
     0x0050_0093,
     0x0010_2823,
     0x0100_0103,
@@ -26,7 +26,7 @@ pub const WORKED: [u32; 5] = [
 ];
 
 /// A bench file at base 0 that starts at `start`.
-pub fn file(heap: Global, start: u32, words: &[u32]) -> Result<Vec<u8>> {
+pub(super) fn file(heap: Global, start: u32, words: &[u32]) -> Result<Vec<u8>> {
     let mut image = Vec::new(heap);
     for word in words {
         image.extend_from_slice(&word.to_le_bytes())?;
@@ -38,7 +38,7 @@ pub fn file(heap: Global, start: u32, words: &[u32]) -> Result<Vec<u8>> {
 }
 
 /// What is sent for a script.
-pub fn sent(heap: Global, file: &[u8], options: Options, script: &[u8]) -> Result<Vec<u8>> {
+pub(super) fn sent(heap: Global, file: &[u8], options: Options, script: &[u8]) -> Result<Vec<u8>> {
     let mut input = script;
     let mut output = Vec::new(heap);
     converse_over(heap, file, options, &mut input, &mut output)?;
@@ -46,7 +46,7 @@ pub fn sent(heap: Global, file: &[u8], options: Options, script: &[u8]) -> Resul
 }
 
 /// Each line of a script gets this answer, on a bench that starts at `start`.
-pub fn check(
+pub(super) fn check(
     heap: Global,
     start: u32,
     words: &[u32],

@@ -1,7 +1,7 @@
-ghost use Rattle.std.specs.Prelude.{Some};
-ghost use Rattle.rv32ui.specs.Lines.{count_of};
+ghost use Rattle.std.specs.Prelude.{◌≡◌, Some};
+ghost use Rattle.rv32ui.specs.Lines.{count_of, hexadecimal, counts_text, seen_text, over_text, calls_text, failure_of};
 
-use rv32ui_cases::{Calls, Over, Seen};
+use rv32ui_cases::{Calls, Counts, Over, Seen};
 use std::fmt;
 
 /// How many of so many cases passed: `addi 24 of 24`.
@@ -23,6 +23,34 @@ impl fmt::Display for CountLine {
     }
 }
 
+// A number in hexadecimal digits, without leading zeros.
+#[derive(Clone, Copy)]
+struct Hexadecimal(u64);
+
+impl fmt::Display for Hexadecimal {
+    ghost output = { λ h. Some (hexadecimal h.0) };
+
+    #[tactic(auto, unfolding(crate::specs::Lines::hexadecimal))]
+    fn fmt<W: fmt::Write>(&self, f: &mut fmt::Formatter<W>) -> fmt::Result {
+        let number = self.0;
+        write!(f, "0x{number:x}")
+    }
+}
+
+// How many instructions retired, in how many clocks.
+#[derive(Clone, Copy)]
+struct Retired(Counts);
+
+impl fmt::Display for Retired {
+    ghost output = { λ r. Some (counts_text r.0) };
+
+    fn fmt<W: fmt::Write>(&self, f: &mut fmt::Formatter<W>) -> fmt::Result {
+        let instructions = self.0.instructions;
+        let clocks = self.0.clocks;
+        write!(f, "{instructions} instructions, {clocks} clocks")
+    }
+}
+
 // What a bench shows, with the number of the case's register.
 #[derive(Clone, Copy)]
 struct Shown {
@@ -31,17 +59,33 @@ struct Shown {
 }
 
 impl fmt::Display for Shown {
+    ghost output = { λ s. Some (seen_text s.register s.seen) };
+
     fn fmt<W: fmt::Write>(&self, f: &mut fmt::Formatter<W>) -> fmt::Result {
         let register = self.register;
-        let number = self.seen.register;
-        let pc = self.seen.pc;
+        let number = Hexadecimal(self.seen.register);
+        let pc = Hexadecimal(self.seen.pc);
         let phase = self.seen.phase;
-        let instructions = self.seen.counts.instructions;
-        let clocks = self.seen.counts.clocks;
-        write!(
-            f,
-            "x{register} = 0x{number:x}, PC = 0x{pc:x} in T{phase}, {instructions} instructions, {clocks} clocks"
-        )
+        let counts = Retired(self.seen.counts);
+        write!(f, "x{register} = {number}, PC = {pc} in T{phase}, {counts}")
+    }
+}
+
+fn over_text(over: Over) -> &'static str
+    ensures { result.now ≡ over_text over }
+{
+    match over {
+        Over::ByteImage => "a byte image",
+        Over::Stack => "a stack",
+    }
+}
+
+fn calls_text(calls: Calls) -> &'static str
+    ensures { result.now ≡ calls_text calls }
+{
+    match calls {
+        Calls::Steps => "steps",
+        Calls::Ticks => "ticks",
     }
 }
 
@@ -58,17 +102,13 @@ pub struct FailureLine {
 }
 
 impl fmt::Display for FailureLine {
+    ghost output = { λ l. Some (failure_of l.name.now l.case l.over l.calls l.register l.came l.expected) };
+
     fn fmt<W: fmt::Write>(&self, f: &mut fmt::Formatter<W>) -> fmt::Result {
         let name = self.name;
         let case = self.case;
-        let over = match self.over {
-            Over::ByteImage => "a byte image",
-            Over::Stack => "a stack",
-        };
-        let calls = match self.calls {
-            Calls::Steps => "steps",
-            Calls::Ticks => "ticks",
-        };
+        let over = over_text(self.over);
+        let calls = calls_text(self.calls);
         let came = Shown {
             register: self.register,
             seen: self.came,
@@ -81,5 +121,55 @@ impl fmt::Display for FailureLine {
             f,
             "{name} {case} on {over} by {calls}: {came}; expected {expected}"
         )
+    }
+}
+
+#[cfg(test)]
+mod tests {
+    use super::FailureLine;
+    use rv32ui_cases::{Calls, Counts, Over, Seen};
+    use std::alloc::AllocError;
+
+    #[test]
+    fn failures_as_the_page_on_these_tests_shows_them(rt: HostRuntime) -> Result<(), AllocError> {
+        let counts = Counts {
+            instructions: 11,
+            clocks: 35,
+        };
+        let came = Seen {
+            pc: 0,
+            phase: 0,
+            register: 0xa0,
+            counts,
+        };
+        let expected = Seen {
+            pc: 0x30,
+            phase: 0,
+            register: 0xffff_efa0,
+            counts,
+        };
+        let line = FailureLine {
+            name: "sb",
+            case: 4,
+            over: Over::ByteImage,
+            calls: Calls::Steps,
+            register: 14,
+            came,
+            expected,
+        };
+        assert_eq!(rt;
+            line.to_string(rt.alloc())?.as_str(),
+            "sb 4 on a byte image by steps: x14 = 0xa0, PC = 0x0 in T0, 11 instructions, 35 clocks; expected x14 = 0xffffefa0, PC = 0x30 in T0, 11 instructions, 35 clocks\n"
+        );
+        let other = FailureLine {
+            over: Over::Stack,
+            calls: Calls::Ticks,
+            ..line
+        };
+        assert_eq!(rt;
+            other.to_string(rt.alloc())?.as_str(),
+            "sb 4 on a stack by ticks: x14 = 0xa0, PC = 0x0 in T0, 11 instructions, 35 clocks; expected x14 = 0xffffefa0, PC = 0x30 in T0, 11 instructions, 35 clocks\n"
+        );
+        Ok(())
     }
 }

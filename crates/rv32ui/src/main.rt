@@ -6,10 +6,11 @@ mod lines;
 mod report;
 
 use report::report;
+use rv32ui_cases::SUITES;
 use std::io;
 use std::io::Write;
 
 fn main(rt: HostRuntime) -> io::Result<()> {
-    let text = report(rt.alloc())?;
+    let text = report(rt.alloc(), &SUITES)?;
     rt.stdout().write_all(text.as_bytes())
 }

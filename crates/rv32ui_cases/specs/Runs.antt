@@ -1,5 +1,5 @@
 -- What a bench shows after a run, and what it has to show at the end of a program's published path.
-use Rattle.std.specs.Prelude.{◌≡◌, ℕ, zero, suc, ◌+◌, ◌-◌, ◌%◌, ◌^◌, replicate, Ok, Err, Result}
+use Rattle.std.specs.Prelude.{ℕ, zero, suc, ◌+◌, ◌-◌, ◌%◌, ◌^◌, replicate, Ok, Err, Result}
 use Rattle.bench.specs.Calls.{stepped_state, ticked_state, new_state}
 use Rattle.bench.specs.Looks.{look_answer}
 use Rattle.bench.specs.State.{State}
@@ -7,6 +7,7 @@ use Rattle.bench.specs.declared.look.Look.{Look}
 use Rattle.bench.specs.declared.look.Look.TheVariants as look
 use Rattle.bench.specs.declared.look.LookFault.{LookFault}
 use Rattle.memory.specs.declared.kind.Kind.{Kind}
+use Rattle.rv32ui_cases.specs.Memories.{kinds_over, words_over}
 use Rattle.rv32ui_cases.specs.declared.program.Counts.{Counts}
 use Rattle.rv32ui_cases.specs.declared.program.Program.{Program}
 use Rattle.rv32ui_cases.specs.declared.running.Calls.{Calls}
@@ -63,8 +64,6 @@ begun start K W = new_state K W (replicate 32 0) ((start + 4) % 2 ^ 32)
 abbrev pub run_over : Program → Calls → ℕ → (ℕ → Kind) → (ℕ → ℕ) → Seen
 run_over p c start K W = shown_of p.register (after c (how_many c p.counts) (begun start K W))
 
--- the same over some memory
-pub record RunSomewhere (p : Program) (c : Calls) (start : ℕ) (seen : Seen) : Type 0 where
-  pub kinds : ℕ → Kind
-  pub words : ℕ → ℕ
-  pub shown : seen ≡ run_over p c start kinds words
+-- the same over the memory that it runs on
+abbrev pub seen_over : Program → Over → Calls → Seen
+seen_over p o c = run_over p c (start_over o) (kinds_over o) (words_over p o)

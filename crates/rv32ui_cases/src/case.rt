@@ -1,7 +1,6 @@
 ghost use Rattle.std.specs.Prelude.{◌≡◌};
-ghost use Rattle.rv32ui_cases.specs.Cases.{number_of};
+ghost use Rattle.rv32ui_cases.specs.Cases.{number_of, program_of};
 
-use super::data::data;
 use super::program::Program;
 use super::shapes::branch_cases::Branch;
 use super::shapes::immediate_cases::Immediate;
@@ -41,8 +40,10 @@ impl Case {
     }
 
     /// The case's program, for this instruction.
-    pub fn program(self, mnemonic: Mnemonic) -> Program {
-        let mut program = Program::new(self.number(), data(mnemonic));
+    pub fn program(self, mnemonic: Mnemonic) -> Program
+        ensures { result ≡ program_of self mnemonic }
+    {
+        let mut program = Program::new(self.number(), mnemonic);
         match self {
             Case::Registers(_, shape) => shape.put(mnemonic, &mut program),
             Case::Immediate(_, shape) => shape.put(mnemonic, &mut program),

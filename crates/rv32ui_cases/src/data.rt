@@ -1,7 +1,13 @@
+ghost use Rattle.std.specs.Prelude.{◌≡◌, ◌≤◌, length};
+ghost use Rattle.rv32ui_cases.specs.Data.{data_of};
+
 use isa::Mnemonic;
 
 /// The published data that a load reads and a store writes, as words.
-pub(super) fn data(mnemonic: Mnemonic) -> &'static [u32] {
+pub(super) fn data(mnemonic: Mnemonic) -> &'static [u32]
+    ensures value { result.now ≡ data_of mnemonic }
+    ensures few { length result.now ≤ 10 }
+{
     match mnemonic {
         // Bytes ff, 00, f0 and 0f.
         Mnemonic::Lb | Mnemonic::Lbu => &[0x0ff0_00ff],

@@ -1,7 +1,14 @@
-ghost use Rattle.std.specs.Prelude.{◌≡◌};
-ghost use Rattle.rv32ui_cases.specs.Runs.{start_over, expected_of, called, after, begun, how_many, number_at, shown_of, run_over, RunSomewhere};
+ghost use Rattle.std.specs.Prelude.{◌≡◌, ◌≤◌, ◌+◌, ◌^◌, length};
 ghost use Rattle.bench.specs.State.{state_of};
+ghost use Rattle.layers.specs.Joined.{joined};
+ghost use Rattle.layers.specs.Placed.{placed_kinds, placed_words};
+ghost use Rattle.layers.specs.Shield.{shield_kinds};
+ghost use Rattle.rv32ui_cases.specs.Data.{data_of};
+ghost use Rattle.rv32ui_cases.specs.Memories.{with_whole, lying, loaded};
+ghost use Rattle.rv32ui_cases.specs.Runs.{start_over, expected_of, called, after, begun, how_many, number_at, shown_of, run_over, seen_over};
+ghost use Rattle.rv32ui_cases.specs.declared.running.Over.TheVariants.{ByteImage, Stack};
 
+use super::data::data;
 use super::program::{Counts, Program, WORDS};
 use bench::{Bench, Look};
 use layers::{Joined, Placed, Shield};
@@ -39,6 +46,9 @@ pub struct Seen {
 /// The word where the data starts.
 const DATA_WORD: u32 = WORDS as u32;
 
+/// The first word of the stack.
+const STACK_WORD: u32 = 0x2000_0000;
+
 impl Calls {
     // How many of them run what these counts are of.
     fn count(self, counts: Counts) -> u64
@@ -58,21 +68,42 @@ impl Over {
     {
         match self {
             Over::ByteImage => 0,
-            Over::Stack => 0x8000_0000,
+            Over::Stack => 4 * STACK_WORD,
         }
     }
 }
 
-// Writes words from word `k` on. A word that is not there is left out, and the program does not pass.
-fn fill<M: WriteMemory>(memory: &mut M, k: u32, words: &[u32]) {
-    for (word, at) in words.iter().zip(k..) {
-        let _ = memory.write(at, *word, 0b1111);
+// Writes a whole word. One that is refused is left out, and the program does not pass.
+#[tactic(auto, using(crate::proofs::Loading::whole_put))]
+fn put_word<M: WriteMemory>(memory: &mut M, k: u32, word: u32)
+    ensures kinds { M.ReadMemory.kinds memory.new ≡ M.ReadMemory.kinds memory.old }
+    ensures words { M.ReadMemory.words memory.new ≡ with_whole (M.ReadMemory.kinds memory.old) k word (M.ReadMemory.words memory.old) }
+{
+    let _ = memory.write(k, word, 0b1111);
+}
+
+// Writes words from word `k` on.
+#[tactic(auto, using(crate::proofs::Loading::none_lie, crate::proofs::Loading::one_more_lies))]
+fn fill<M: WriteMemory>(memory: &mut M, k: u32, words: &[u32])
+    requires { k + length words.now ≤ 128 }
+    ensures kinds { M.ReadMemory.kinds memory.new ≡ M.ReadMemory.kinds memory.old }
+    ensures words { M.ReadMemory.words memory.new ≡ lying (M.ReadMemory.kinds memory.old) k words.now (M.ReadMemory.words memory.old) }
+{
+    let mut at = k;
+    for word in words {
+        put_word(memory, at, *word);
+        at += 1;
     }
 }
 
-fn load<M: WriteMemory>(memory: &mut M, program: &Program) {
+// Writes a program and its data.
+fn load<M: WriteMemory>(memory: &mut M, program: &Program)
+    ensures kinds { M.ReadMemory.kinds memory.new ≡ M.ReadMemory.kinds memory.old }
+    ensures words { M.ReadMemory.words memory.new ≡ loaded program.now (M.ReadMemory.kinds memory.old) (M.ReadMemory.words memory.old) }
+    ensures fits { (length program.now.words ≡ 64) × (length (data_of program.now.mnemonic) ≤ 10) }
+{
     fill(memory, 0, &program.words);
-    fill(memory, DATA_WORD, program.data);
+    fill(memory, DATA_WORD, data(program.mnemonic));
 }
 
 // What a look shows. One that is refused shows what is in no register.
@@ -136,17 +167,26 @@ fn drive<M: WriteMemory + Drop>(memory: M, start: u32, program: &Program, calls:
     see(&bench, program.register)
 }
 
+// Runs a program on a byte image.
+fn drive_image(program: &Program, calls: Calls) -> Seen
+    ensures { result ≡ seen_over program.now ByteImage calls }
+{
+    let mut bytes = [0; 512];
+    let mut image = ByteImage::new(&mut bytes);
+    load(&mut image, program);
+    drive(image, 0, program, calls)
+}
+
 // Runs a program on a stack of layers over two stores.
 fn drive_stack<L: WriteMemory + Drop, R: WriteMemory + Drop>(
     left: L,
     right: R,
-    start: u32,
     program: &Program,
     calls: Calls,
 ) -> Seen
-    ensures { RunSomewhere program.now calls start result }
+    ensures fits { (length program.now.words ≡ 64) × (length (data_of program.now.mnemonic) ≤ 10) }
+    ensures shown { result ≡ run_over program.now calls (2 ^ 31) (shield_kinds 0 (2 ^ 29 + 64) (placed_kinds (2 ^ 29) (joined 65 (L.ReadMemory.kinds left) (R.ReadMemory.kinds right)))) (placed_words (2 ^ 29) (loaded program.now (joined 65 (L.ReadMemory.kinds left) (R.ReadMemory.kinds right)) (joined 65 (L.ReadMemory.words left) (R.ReadMemory.words right)))) }
 {
-    let base = start / 4;
     let mut joined = Joined {
         at: DATA_WORD + 1,
         left,
@@ -155,34 +195,34 @@ fn drive_stack<L: WriteMemory + Drop, R: WriteMemory + Drop>(
     load(&mut joined, program);
     let stack = Shield {
         from: 0,
-        to: base.wrapping_add(DATA_WORD),
+        to: STACK_WORD + DATA_WORD,
         below: Placed {
-            base,
+            base: STACK_WORD,
             below: joined,
         },
     };
-    drive(stack, start, program, calls)
+    drive(stack, 4 * STACK_WORD, program, calls)
+}
+
+// The same over a byte image and a word bank.
+fn drive_stores(program: &Program, calls: Calls) -> Seen
+    ensures { result ≡ seen_over program.now Stack calls }
+{
+    let mut bytes = [0; 4 * (WORDS + 1)];
+    let mut words = [0; 2 * WORDS];
+    let left = ByteImage::new(&mut bytes);
+    let right = WordBank::new(&mut words);
+    drive_stack(left, right, program, calls)
 }
 
 impl Program {
     /// What a new bench shows after so many steps or ticks as the program's published path has.
     pub fn run(&self, over: Over, calls: Calls) -> Seen
-        ensures { RunSomewhere self.now calls (start_over over) result }
+        ensures { result ≡ seen_over self.now over calls }
     {
         match over {
-            Over::ByteImage => {
-                let mut bytes = [0; 512];
-                let mut image = ByteImage::new(&mut bytes);
-                load(&mut image, self);
-                drive(image, over.start(), self, calls)
-            }
-            Over::Stack => {
-                let mut bytes = [0; 4 * (WORDS + 1)];
-                let mut words = [0; 2 * WORDS];
-                let left = ByteImage::new(&mut bytes);
-                let right = WordBank::new(&mut words);
-                drive_stack(left, right, over.start(), self, calls)
-            }
+            Over::ByteImage => drive_image(self, calls),
+            Over::Stack => drive_stores(self, calls),
         }
     }
 

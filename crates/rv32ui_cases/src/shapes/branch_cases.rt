@@ -1,3 +1,6 @@
+ghost use Rattle.std.specs.Prelude.{◌≡◌};
+ghost use Rattle.rv32ui_cases.specs.Shapes.{branch_put};
+
 use crate::instructions::{bne, branch};
 use crate::program::Program;
 use isa::Mnemonic;
@@ -16,7 +19,9 @@ pub enum Branch {
 
 impl Branch {
     // Puts the case of an instruction into a program.
-    pub(crate) fn put(self, mnemonic: Mnemonic, program: &mut Program) {
+    pub(crate) fn put(self, mnemonic: Mnemonic, program: &mut Program)
+        ensures { program.new ≡ branch_put mnemonic self program.old }
+    {
         match self {
             // Forwards, back, and forwards past the second check.
             Branch::OpTaken(first, second) => {

@@ -1,3 +1,6 @@
+ghost use Rattle.std.specs.Prelude.{◌≡◌};
+ghost use Rattle.rv32ui_cases.specs.Shapes.{immediate_put, twelve};
+
 use crate::instructions::{addi, immediate};
 use crate::program::Program;
 use bits::sign_extend;
@@ -20,13 +23,17 @@ pub enum Immediate {
 }
 
 // The number that twelve bits stand for.
-fn twelve(bits: u32) -> i64 {
+fn twelve(bits: u32) -> i64
+    ensures { result ≡ twelve bits }
+{
     i64::from(sign_extend(bits, 12).cast_signed())
 }
 
 impl Immediate {
     // Puts the case of an instruction into a program.
-    pub(crate) fn put(self, mnemonic: Mnemonic, program: &mut Program) {
+    pub(crate) fn put(self, mnemonic: Mnemonic, program: &mut Program)
+        ensures { program.new ≡ immediate_put mnemonic self program.old }
+    {
         match self {
             Immediate::Op(result, first, bits) => {
                 program.li(13, first);

@@ -1,3 +1,6 @@
+ghost use Rattle.std.specs.Prelude.{◌≡◌};
+ghost use Rattle.rv32ui_cases.specs.Shapes.{jump_put, link_put};
+
 use crate::instructions::{addi, bne, immediate, jal};
 use crate::program::Program;
 use isa::Mnemonic;
@@ -22,7 +25,9 @@ pub enum Jump {
 
 impl Jump {
     // Puts the case of an instruction into a program.
-    pub(crate) fn put(self, mnemonic: Mnemonic, program: &mut Program) {
+    pub(crate) fn put(self, mnemonic: Mnemonic, program: &mut Program)
+        ensures { program.new ≡ jump_put mnemonic self program.old }
+    {
         match self {
             Jump::JalLink => {
                 program.li(1, 0);
@@ -70,7 +75,9 @@ impl Jump {
 }
 
 // JALR by a register, with the link in x5, and the check of the link.
-fn put_link(program: &mut Program, mnemonic: Mnemonic, rs1: u8) {
+fn put_link(program: &mut Program, mnemonic: Mnemonic, rs1: u8)
+    ensures { program.new ≡ link_put mnemonic rs1 program.old }
+{
     let link = program.ahead(3);
     program.la(rs1, program.ahead(4));
     program.put(immediate(mnemonic, 5, rs1, 0));

@@ -1,3 +1,6 @@
+ghost use Rattle.std.specs.Prelude.{◌≡◌};
+ghost use Rattle.rv32ui_cases.specs.Shapes.{load_put};
+
 use crate::instructions::{addi, immediate};
 use crate::program::{Program, in_data};
 use isa::Mnemonic;
@@ -19,7 +22,9 @@ pub enum Load {
 
 impl Load {
     // Puts the case of an instruction into a program.
-    pub(crate) fn put(self, mnemonic: Mnemonic, program: &mut Program) {
+    pub(crate) fn put(self, mnemonic: Mnemonic, program: &mut Program)
+        ensures { program.new ≡ load_put mnemonic self program.old }
+    {
         match self {
             Load::Op(result, offset, base) => {
                 program.la(2, in_data(base));

@@ -1,3 +1,6 @@
+ghost use Rattle.std.specs.Prelude.{◌≡◌};
+ghost use Rattle.rv32ui_cases.specs.Shapes.{registers_put};
+
 use crate::instructions::{addi, register};
 use crate::program::Program;
 use isa::Mnemonic;
@@ -28,7 +31,9 @@ pub enum Registers {
 
 impl Registers {
     // Puts the case of an instruction into a program.
-    pub(crate) fn put(self, mnemonic: Mnemonic, program: &mut Program) {
+    pub(crate) fn put(self, mnemonic: Mnemonic, program: &mut Program)
+        ensures { program.new ≡ registers_put mnemonic self program.old }
+    {
         match self {
             Registers::Op(result, first, second) => {
                 program.li(11, first);

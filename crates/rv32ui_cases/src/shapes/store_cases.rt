@@ -1,3 +1,6 @@
+ghost use Rattle.std.specs.Prelude.{◌≡◌};
+ghost use Rattle.rv32ui_cases.specs.Shapes.{store_put};
+
 use crate::instructions::{addi, immediate, store};
 use crate::program::{Program, in_data};
 use isa::Mnemonic;
@@ -19,7 +22,9 @@ pub enum Store {
 
 impl Store {
     // Puts the case of an instruction into a program.
-    pub(crate) fn put(self, mnemonic: Mnemonic, program: &mut Program) {
+    pub(crate) fn put(self, mnemonic: Mnemonic, program: &mut Program)
+        ensures { program.new ≡ store_put mnemonic self program.old }
+    {
         match self {
             Store::Op(load, result, offset, base) => {
                 program.la(2, in_data(base));

@@ -1,3 +1,6 @@
+ghost use Rattle.std.specs.Prelude.{◌≡◌};
+ghost use Rattle.rv32ui_cases.specs.Shapes.{upper_put, raised};
+
 use crate::instructions::{immediate, jal, register, upper};
 use crate::program::Program;
 use isa::Mnemonic;
@@ -16,13 +19,17 @@ pub enum Upper {
 }
 
 // The upper twenty bits, in their place.
-fn raised(bits: u32) -> i64 {
+fn raised(bits: u32) -> i64
+    ensures { result ≡ raised bits }
+{
     i64::from(bits.wrapping_mul(4096))
 }
 
 impl Upper {
     // Puts the case of an instruction into a program.
-    pub(crate) fn put(self, mnemonic: Mnemonic, program: &mut Program) {
+    pub(crate) fn put(self, mnemonic: Mnemonic, program: &mut Program)
+        ensures { program.new ≡ upper_put mnemonic self program.old }
+    {
         match self {
             Upper::Lui(result, bits) => {
                 program.put(upper(mnemonic, 1, raised(bits)));

@@ -1,0 +1,14 @@
+//! States that meet a relation and states that do not, for each relation and law that the contracts cite.
+//!
+//! A promise by a relation that everything meets says nothing, and one by a relation that nothing meets cannot be kept.
+//! Neither shows in the proofs of the code, so it is shown here.
+
+#![tactic(auto)]
+
+mod cells;
+mod lanes;
+mod reading;
+
+pub use cells::{cell_laws, rest, wrote};
+pub use lanes::{each_lane, placed};
+pub use reading::{carries, does_not_fit, ends, every, fits, names, only_mnemonic, reads, selects, within, written};

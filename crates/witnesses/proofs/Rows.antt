@@ -22,32 +22,29 @@ reached = (record { kept = refl; after = λ j. refl; rests = refl }, λ w. apart
 pub not_reached : Wrote one_open zeros (four_of 0) false 0 7 0b1111 one_open zeros (four_of 0) × (Wrote one_open zeros (four_of 0) false 0 7 0b1111 one_open with_seven (four_of 0) → ⊥)
 not_reached = (record { kept = refl; after = λ j. refl; rests = refl }, λ w. apart (λ n. eqb n 7) 7 0 refl refl (w.after 0))
 
-owner : Rest → ℕ
+abbrev owner : Rest → ℕ
 owner (lent name n s) = name
 owner (shared place n s) = 0
 owner (over f t K w r) = 0
 owner (beside n l r) = 0
 
-size : Rest → ℕ
+abbrev size : Rest → ℕ
 size (lent name n s) = n
 size (shared place n s) = n
 size (over f t K w r) = 0
 size (beside n l r) = 0
 
-spares : Rest → ℕ → ℕ
+abbrev spares : Rest → ℕ → ℕ
 spares (lent name n s) = s
 spares (shared place n s) = s
 spares (over f t K w r) = nowhere
 spares (beside n l r) = nowhere
 
 pub other_owner : four_of 0 ≡ four_of 1 → ⊥
-unfolding owner
 other_owner e = apart (λ r. eqb (owner r) 0) _ _ refl refl e
 
 pub other_length : four_of 0 ≡ lent 0 5 nowhere → ⊥
-unfolding size
 other_length e = apart (λ r. eqb (size r) 4) _ _ refl refl e
 
 pub other_spare : four_of 0 ≡ lent 0 4 with_seven → ⊥
-unfolding spares
 other_spare e = apart (λ r. eqb (spares r 0) 0) _ _ refl refl e

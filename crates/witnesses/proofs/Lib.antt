@@ -2,6 +2,8 @@ pub mod Apart
 pub mod Beats
 pub mod Bytes
 pub mod Fitting
+pub mod Keeping
 pub mod Owing
 pub mod Readings
 pub mod Rows
+pub mod Standing

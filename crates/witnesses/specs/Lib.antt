@@ -1,3 +1,4 @@
 pub mod Reading
 pub mod Memories
 pub mod Machines
+pub mod Benches

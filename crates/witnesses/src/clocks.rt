@@ -1,7 +1,7 @@
 ghost use Rattle.std.specs.Prelude.{◌≡◌, true, false, Ok, Err};
 ghost use Rattle.arch1.specs.Clock.{idle};
 ghost use Rattle.arch1.specs.Owes.{Owes, clocks_of_class, within};
-ghost use Rattle.arch1.specs.Refinement.{Carries, Keeps, Refines, Stands, StillOpen, rig, start_of};
+ghost use Rattle.arch1.specs.Refinement.{Carries, Keeps, Refines, Stands, StillOpen, answer_for, rig, rig_for, start_of};
 ghost use Rattle.arch1.specs.declared.phase.Phase.TheVariants.{T1, T2};
 ghost use Rattle.machine.specs.Machine.{stepped};
 ghost use Rattle.machine.specs.declared.cause.Cause.TheVariants.{Memory, UnalignedPc};
@@ -76,6 +76,10 @@ pub fn carries_out()
 /// The clocks of one instruction over any memory are those of a step, and five never are.
 #[tactic(auto, using(crate::proofs::Beats::not_in_five))]
 pub fn refines<M: WriteMemory>(memory: &mut M, registers: RegisterFile, pc: u32) -> (Core, Result<u8, CoreFault>)
+    ensures answer { result.1 ≡ answer_for (M.ReadMemory.kinds memory.old) 4 0 (rig (idle registers pc) (M.ReadMemory.words memory.old)) }
+    ensures state { rig result.0 (M.ReadMemory.words memory.new) ≡ rig_for (M.ReadMemory.kinds memory.old) 4 (rig (idle registers pc) (M.ReadMemory.words memory.old)) }
+    ensures kinds { M.ReadMemory.kinds memory.new ≡ M.ReadMemory.kinds memory.old }
+    ensures rest { M.WriteMemory.rest memory.new ≡ M.WriteMemory.rest memory.old }
     ensures met { Refines (M.ReadMemory.kinds memory.old) (start_of (idle registers pc) (M.ReadMemory.words memory.old)) (rig (idle registers pc) (M.ReadMemory.words memory.old)) result.1 (rig result.0 (M.ReadMemory.words memory.new)) }
     ensures missed { Refines (M.ReadMemory.kinds memory.old) (start_of (idle registers pc) (M.ReadMemory.words memory.old)) (rig (idle registers pc) (M.ReadMemory.words memory.old)) (Ok 5) (rig result.0 (M.ReadMemory.words memory.new)) → ⊥ }
 {

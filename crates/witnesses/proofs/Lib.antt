@@ -1,6 +1,7 @@
 pub mod Apart
 pub mod Beats
 pub mod Bytes
+pub mod Calling
 pub mod Fitting
 pub mod Keeping
 pub mod Owing

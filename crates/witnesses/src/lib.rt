@@ -9,10 +9,12 @@ mod cells;
 mod clocks;
 mod lanes;
 mod law;
+mod lists;
 mod reading;
 
 pub use cells::{cell_laws, rest, wrote};
 pub use clocks::{carries_out, clocked, keeps, owes, refines, refuses, retires, stands_between, still_open};
 pub use lanes::{each_lane, placed};
 pub use law::{begins, calls_kept, kept, next, reached, stands, stood};
+pub use lists::{lawful, never_short};
 pub use reading::{carries, does_not_fit, ends, every, fits, names, only_mnemonic, reads, selects, within, written};

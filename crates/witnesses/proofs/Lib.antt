@@ -3,8 +3,10 @@ pub mod Beats
 pub mod Bytes
 pub mod Calling
 pub mod Fitting
+pub mod Judging
 pub mod Keeping
 pub mod Owing
 pub mod Readings
 pub mod Rows
+pub mod Saying
 pub mod Standing

@@ -7,14 +7,18 @@
 
 mod cells;
 mod clocks;
+mod files;
 mod lanes;
 mod law;
+mod lines;
 mod lists;
 mod reading;
 
 pub use cells::{cell_laws, rest, wrote};
 pub use clocks::{carries_out, clocked, keeps, owes, refines, refuses, retires, stands_between, still_open};
+pub use files::{decides, verdict, whole_words};
 pub use lanes::{each_lane, placed};
 pub use law::{begins, calls_kept, kept, next, reached, stands, stood};
-pub use lists::{lawful, never_short};
-pub use reading::{carries, does_not_fit, ends, every, fits, names, only_mnemonic, reads, selects, within, written};
+pub use lines::{names, numerals, numbers, read, says, sized, tells};
+pub use lists::{lawful, never_short, replays};
+pub use reading::{carries, does_not_fit, ends, every, fits, mnemonic_named, only_mnemonic, reads, selects, within, written};

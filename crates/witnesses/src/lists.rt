@@ -1,5 +1,5 @@
 ghost use Rattle.std.specs.Prelude.{◌≡◌, ℕ, suc, Ok, [], ◌∷◌};
-ghost use Rattle.bench.specs.Calls.{new_state, tick_answer, ticked_state};
+ghost use Rattle.bench.specs.Calls.{new_state, step_answer, tick_answer, ticked_state};
 ghost use Rattle.bench.specs.Law.{start_over};
 ghost use Rattle.bench.specs.State.{State, state_of};
 ghost use Rattle.session.specs.Lawful.{Lawful, LawfulSomewhere};
@@ -12,7 +12,7 @@ ghost use Rattle.witnesses.specs.Benches.{made_in};
 use bench::Bench;
 use memory::WriteMemory;
 use registers::RegisterFile;
-use session::{Answer, Call, play};
+use session::{Answer, Call, Replayed, play, replay};
 
 /// After a step one instruction can be taken back, and before it none.
 #[tactic(auto, using(crate::proofs::Calling::short))]
@@ -34,4 +34,19 @@ pub fn lawful<M: WriteMemory>(memory: M, registers: RegisterFile, pc: u32) -> (B
     let mut places = [Answer::Looked(Ok(0))];
     let (bench, _) = play(memory, registers, pc, &[Call::Tick], &mut places);
     (bench, places[0])
+}
+
+/// A step on a new bench, and as many steps alone on another: not without its answer, and with no other count.
+pub fn replays<M: WriteMemory, S: WriteMemory>(memory: M, twin: S, registers: RegisterFile, pc: u32) -> (Replayed<M, S>, Answer)
+    ensures made { result.0.made ≡ 1 }
+    ensures answer { result.1 ≡ answer.Stepped (step_answer (new_state (M.ReadMemory.kinds memory) (M.ReadMemory.words memory) registers pc)) }
+    ensures rest { M.WriteMemory.rest result.0.played.memory ≡ M.WriteMemory.rest memory }
+    ensures twin { S.WriteMemory.rest result.0.straight.memory ≡ S.WriteMemory.rest twin }
+    ensures met { Replays (start_over M.ReadMemory memory registers pc) (start_over S.ReadMemory twin registers pc) (call.Step ∷ []) (result.1 ∷ []) result.0.standing (state_of M.ReadMemory result.0.played) (state_of S.ReadMemory result.0.straight) }
+    ensures missed { Replays (start_over M.ReadMemory memory registers pc) (start_over S.ReadMemory twin registers pc) (call.Step ∷ []) [] result.0.standing (state_of M.ReadMemory result.0.played) (state_of S.ReadMemory result.0.straight) → ⊥ }
+    ensures missed_count { Replays (start_over M.ReadMemory memory registers pc) (start_over S.ReadMemory twin registers pc) (call.Step ∷ []) (result.1 ∷ []) (suc result.0.standing) (state_of M.ReadMemory result.0.played) (state_of S.ReadMemory result.0.straight) → ⊥ }
+{
+    let mut places = [Answer::Looked(Ok(0))];
+    let replayed = replay(memory, twin, registers, pc, &[Call::Step], &mut places);
+    (replayed, places[0])
 }

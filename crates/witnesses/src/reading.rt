@@ -39,7 +39,7 @@ pub fn only_mnemonic()
 
 /// It is in the table with these codes and the format I, and LH is not, nor is it a store.
 #[tactic(auto, using(crate::proofs::Readings::load_named))]
-pub fn names()
+pub fn mnemonic_named()
     ensures { Names 0b0000011 0b010 Immediate (Ok Lw) × (Names 0b0000011 0b010 Immediate (Ok Lh) → ⊥) × (Names 0b0000011 0b010 Store (Ok Lw) → ⊥) }
 {
 }

@@ -5,8 +5,10 @@ pub mod Calling
 pub mod Fitting
 pub mod Judging
 pub mod Keeping
+pub mod Listing
 pub mod Owing
 pub mod Readings
 pub mod Rows
 pub mod Saying
 pub mod Standing
+pub mod Talking

@@ -13,6 +13,7 @@ mod law;
 mod lines;
 mod lists;
 mod reading;
+mod texts;
 
 pub use cells::{cell_laws, rest, wrote};
 pub use clocks::{carries_out, clocked, keeps, owes, refines, refuses, retires, stands_between, still_open};
@@ -22,3 +23,4 @@ pub use law::{begins, calls_kept, kept, next, reached, stands, stood};
 pub use lines::{names, numerals, numbers, read, says, sized, tells};
 pub use lists::{lawful, never_short, replays};
 pub use reading::{carries, does_not_fit, ends, every, fits, mnemonic_named, only_mnemonic, reads, selects, within, written};
+pub use texts::{adds, fault_of, line_kept, listed, pc_fits, sent_over, turn, whole_listing};

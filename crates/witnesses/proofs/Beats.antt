@@ -1,18 +1,15 @@
 -- The clocks of one instruction.
-use Rattle.std.proofs.Common.{◌≡◌, ℕ, suc, ◌≤◌, Bool, true, false, eqb, Ok, Err, Result, refl, sym, ap, ◌∙◌, arith}
+use Rattle.std.proofs.Common.{ℕ, ◌≤◌, Bool, true, false, eqb, Ok, refl, sym, ap, ◌∙◌, arith}
 use Rattle.isa.specs.Decoding.{reading_of}
 use Rattle.isa.specs.declared.mnemonic.Class.{Class}
-use Rattle.isa.specs.declared.mnemonic.Class.TheVariants.{Comp, CompI, Lui, Auipc, Ld, St, Jal, Jalr, Br}
+use Rattle.isa.specs.declared.mnemonic.Class.TheVariants.{CompI}
 use Rattle.arch1.proofs.Clocks.{clock_keeps}
 use Rattle.arch1.proofs.Owed.{owes_pc}
 use Rattle.arch1.specs.Owes.{Owes, idle, fetched, clocks_of_class}
 use Rattle.arch1.specs.Refinement.{Carries, Keeps, Refines, Rig, StillOpen}
-use Rattle.arch1.specs.declared.phase.CoreFault.{CoreFault}
 use Rattle.arch1.specs.declared.phase.Phase.TheVariants.{T1}
-use Rattle.arch1.specs.declared.phase.Ticked.{Ticked}
 use Rattle.machine.specs.Machine.{Arch, Step, went, cannot, stepped}
 use Rattle.machine.specs.Causes.{number_of}
-use Rattle.machine.specs.declared.cause.Cause.{Cause}
 use Rattle.machine.specs.declared.cause.Cause.TheVariants.{Memory, UnalignedPc}
 use Rattle.memory.specs.Meaning.{refused}
 use Rattle.memory.specs.declared.fault.Cause.TheVariants.{NoWord}
@@ -66,7 +63,7 @@ unfolding reading_of
 refusing = (
   record { step = refl; at = refl; owes = idle 0 0 0 0 false; kept = refl },
   λ r. apart (λ s. eqb (cause_in s) 2) _ _ refl refl r.step,
-  λ r. apart (λ s. eqb (cause_in s) 0) _ _ refl refl r.step
+  λ r. apart (λ s. eqb (cause_in s) 0) _ _ refl refl r.step,
 )
 
 retired_at_once : Keeps one_open words (at before) (Ok (record { next = T1; retired = true })) one_clock words → ⊥
@@ -84,7 +81,7 @@ unfolding reading_of
 carrying = (
   (refl, stands_at behind),
   λ c. apart (λ n. eqb n 4) 4 3 refl refl c.0,
-  λ c. apart (λ n. eqb n 0) 0 4 refl refl c.1.pc
+  λ c. apart (λ n. eqb n 0) 0 4 refl refl c.1.pc,
 )
 
 carried_in_five : (K : ℕ → Kind) (a : Arch) (st : Step) (t : Rig) → Carries K a st (Ok 5) t → ⊥

@@ -1,5 +1,5 @@
 -- Lists of calls and of answers.
-use Rattle.std.proofs.Common.{◌≡◌, ℕ, ◌≤◌, Ok, List, [], ◌∷◌, arith}
+use Rattle.std.proofs.Common.{◌≤◌, Ok, [], ◌∷◌, arith}
 use Rattle.session.specs.Lists.{NeverShort}
 use Rattle.session.specs.declared.call.Answer.TheVariants as answer
 use Rattle.witnesses.specs.Benches.{made_in}

@@ -1,10 +1,9 @@
 -- What fits its format, and the words that carry it.
-use Rattle.std.proofs.Common.{◌≡◌, ℕ, ◌^◌, ◌<◌, Bool, true, false, eqb, ℤ, pos, negsuc, refl, sym, ap, arith, rules, Ok, Err, Result, MatchResult}
+use Rattle.std.proofs.Common.{◌≡◌, ℕ, ◌^◌, ◌<◌, eqb, pos, negsuc, refl, sym, ap, arith, Ok, Err, Result, MatchResult}
 use Rattle.std.specs.Ordering.{int_eq}
-use Rattle.std.proofs.lemmas.Int.{ints}
 use Rattle.isa.specs.declared.instruction.Instruction.{Instruction}
 use Rattle.isa.specs.declared.mnemonic.Format.TheVariants.{Immediate, Register}
-use Rattle.isa.specs.declared.mnemonic.Mnemonic.TheVariants.{Add, Addi}
+use Rattle.isa.specs.declared.mnemonic.Mnemonic.TheVariants.{Add, Addi, Lui}
 use Rattle.isa.specs.declared.refusal.Refusal.{Refusal}
 use Rattle.isa.specs.declared.refusal.Refusal.TheVariants.{DoesNotFit}
 use Rattle.isa.specs.Fitting.{Fits}
@@ -12,7 +11,7 @@ use Rattle.isa.specs.Reading.{Reads}
 use Rattle.isa.specs.Refusals.{number_of}
 use Rattle.isa.specs.Table.{row_of}
 use Rattle.encode.proofs.Unique.{same_word}
-use Rattle.encode.specs.Words.{Carries, Only, Within, Written}
+use Rattle.encode.specs.Words.{Carries, Filled, FilledUpper, Only, Within, Written}
 use Rattle.witnesses.proofs.Apart.{apart}
 use Rattle.witnesses.specs.Reading.{add, addi, beq, jal, lui, slli}
 
@@ -70,3 +69,9 @@ only_sum v c =
 
 pub only_word : Only Register (row_of Add) add (Ok 0x003100B3) × (Only Register (row_of Add) add (Err DoesNotFit) → ⊥)
 only_word = (only_sum, λ o. grind (arith, o 0x003100B3 sum_carries))
+
+pub fields : Filled (row_of Add) 1 2 3 0 0x003100B3 × (Filled (row_of Add) 1 2 4 0 0x003100B3 → ⊥)
+fields = (record { opcode = refl; rd = refl; funct3 = refl; rs1 = refl; rs2 = refl; funct7 = refl }, λ f. apart (λ n. eqb n 3) 3 4 refl refl f.rs2)
+
+pub upper_fields : FilledUpper (row_of Lui) 1 0x12345 0x123450B7 × (FilledUpper (row_of Lui) 1 0x12346 0x123450B7 → ⊥)
+upper_fields = (record { opcode = refl; rd = refl; upper = refl }, λ f. apart (λ n. eqb n 0x12345) 0x12345 0x12346 refl refl f.upper)

@@ -1,7 +1,7 @@
 -- What the reader makes of a header.
-use Rattle.std.proofs.Common.{◌≡◌, ℕ, ◌≤◌, Bool, true, false, eqb, List, [], ◌∷◌, ◌++◌, Ok, Err, Result, refl, sym, ap, ◌∙◌, arith}
+use Rattle.std.proofs.Common.{ℕ, ◌≤◌, eqb, List, [], ◌∷◌, ◌++◌, Ok, Err, Result, refl, sym, ap, ◌∙◌, arith}
 use Rattle.std.specs.Prelude.{replicate}
-use Rattle.benchfile.specs.Format.{Contents, file_of, judged}
+use Rattle.benchfile.specs.Format.{Contents, judged}
 use Rattle.benchfile.specs.Header.{header_of}
 use Rattle.benchfile.specs.Laws.{Decides, GetsTheVerdict, ReadsBack, WholeWords}
 use Rattle.benchfile.specs.declared.refusals.Refusal.{Refusal}
@@ -30,5 +30,5 @@ whole = (
   (refl, refl, omega arith),
   λ w. apart (λ n. eqb n 2) 2 0 refl refl w.0,
   λ w. apart (λ n. eqb n 3) 3 0 refl refl w.1,
-  too_far
+  too_far,
 )

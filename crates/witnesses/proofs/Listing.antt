@@ -1,9 +1,8 @@
 -- Listings of no words, and of one.
-use Rattle.std.proofs.Common.{◌≡◌, ℕ, ◌+◌, Bool, true, false, eqb, List, [], ◌∷◌, ◌++◌, length, get_or, refl, sym, ap, ◌∙◌, subst, arith, append-nil}
+use Rattle.std.proofs.Common.{◌≡◌, ℕ, eqb, List, [], ◌∷◌, ◌++◌, length, get_or, refl, sym, ap, ◌∙◌, subst, arith, append-nil}
 use Rattle.std.specs.Fmt.{digits}
 use Rattle.std.specs.Prelude.{codes, pos}
 use Rattle.isa.specs.Reading.{Reads}
-use Rattle.isa.specs.declared.instruction.Instruction.{Instruction}
 use Rattle.report.specs.Lines.{summary_of}
 use Rattle.report.specs.Listing.{Adds, Listed, Lists, nothing, instruction, none}
 use Rattle.witnesses.proofs.Apart.{apart}
@@ -46,7 +45,7 @@ pub added : Adds 0 [] (codes "a") (codes "a") 0 × (Adds 0 [] (codes "a") (codes
 added = (
   record { lines = []; longer = refl; listed = nothing },
   λ a. apart (λ t. eqb (length t) 2) (codes "ab") (codes "a") refl refl (same_text (codes "a") (codes "ab") 0 a),
-  λ a. apart (λ n. eqb n 1) 1 0 refl refl (none_counted 0 [] a.lines 1 a.listed refl)
+  λ a. apart (λ n. eqb n 1) 1 0 refl refl (none_counted 0 [] a.lines 1 a.listed refl),
 )
 
 -- the listing of no words is the line of the counts
@@ -61,5 +60,5 @@ unfolding digits
 counts_listed = (
   record { lines = []; instructions = 0; listed = nothing; whole = refl },
   λ l. apart (λ t. eqb (length t) 0) [] (summary_of 0 0) refl refl (only_counts [] l),
-  λ l. apart (λ t. eqb (get_or t 9 0) 49) (summary_of 0 1) (summary_of 0 0) refl refl (only_counts (summary_of 0 1) l)
+  λ l. apart (λ t. eqb (get_or t 9 0) 49) (summary_of 0 1) (summary_of 0 0) refl refl (only_counts (summary_of 0 1) l),
 )

@@ -1,5 +1,5 @@
 -- What a core owes, and what it does not.
-use Rattle.std.proofs.Common.{◌≡◌, ℕ, Bool, true, false, eqb, Ok, Result, refl, sym, ◌∙◌}
+use Rattle.std.proofs.Common.{◌≡◌, ℕ, Bool, false, eqb, Ok, Result, refl}
 use Rattle.arch1.proofs.Owed.{owes_pc}
 use Rattle.arch1.specs.Datapath.{Datapath}
 use Rattle.arch1.specs.Owes.{Owes, idle, fetched, decoded, loading, branching, within}

@@ -1,5 +1,5 @@
 -- Cells in a row, two memories side by side, and what no write changes.
-use Rattle.std.proofs.Common.{◌≡◌, ℕ, Bool, true, false, eqb, List, [], ◌∷◌, refl}
+use Rattle.std.proofs.Common.{◌≡◌, ℕ, true, false, eqb, List, [], ◌∷◌, refl}
 use Rattle.layers.specs.Wrote.{Wrote}
 use Rattle.memory.specs.Rest.{Rest, lent, shared, over, beside, nowhere}
 use Rattle.stores.specs.Bank.{within, placed_at, with_word, spare}

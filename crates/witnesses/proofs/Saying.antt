@@ -1,5 +1,5 @@
 -- What texts say.
-use Rattle.std.proofs.Common.{◌≡◌, ℕ, ◌^◌, ◌<◌, Bool, true, false, eqb, List, [], ◌∷◌, length, Some, None, Option, refl, sym, ap, ◌∙◌, arith}
+use Rattle.std.proofs.Common.{◌≡◌, ℕ, ◌^◌, ◌<◌, Bool, true, false, eqb, List, [], length, Some, None, Option, refl, sym, arith}
 use Rattle.std.specs.Prelude.{codes}
 use Rattle.bench.specs.declared.look.Look.{Look}
 use Rattle.bench.specs.declared.look.Look.TheVariants as look
@@ -49,7 +49,7 @@ pub number : Number (codes "0x1f") 31 × (Number (codes "0x1f") 1 → ⊥)
 unfolding number_in
 number = (
   Number-number_of (codes "0x1f") 31 refl,
-  λ n. apart (is_number 31) _ _ refl refl (number_of-Number (codes "0x1f") 1 n)
+  λ n. apart (is_number 31) _ _ refl refl (number_of-Number (codes "0x1f") 1 n),
 )
 
 -- the number in a line: of a run, or of a register that is looked at
@@ -116,7 +116,7 @@ unfolding number_in
 reads = (
   table.reads (codes "run 12") _ refl,
   λ r. apart (λ l. eqb (lined l) 0) _ _ refl refl (r.only (command.Call (call.Run 12)) run_twelve),
-  λ r. apart (λ l. eqb (lined l) 13) _ _ refl refl (r.only (command.Call (call.Run 12)) run_twelve)
+  λ r. apart (λ l. eqb (lined l) 13) _ _ refl refl (r.only (command.Call (call.Run 12)) run_twelve),
 )
 
 too_many : IsSized (command.Call (call.Run (2 ^ 32))) → ⊥

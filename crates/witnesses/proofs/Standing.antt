@@ -1,5 +1,5 @@
 -- How many instructions stand.
-use Rattle.std.proofs.Common.{◌≡◌, ℕ, Bool, true, false, eqb, Ok, Err, Result, refl}
+use Rattle.std.proofs.Common.{eqb, Ok, Err, refl}
 use Rattle.arch1.specs.declared.phase.Phase.TheVariants.{T0}
 use Rattle.bench.proofs.Keeps.{reached_stands}
 use Rattle.bench.specs.Calls.{step_answer_for, stepped_for, stepped_state}

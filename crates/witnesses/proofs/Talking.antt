@@ -1,11 +1,10 @@
 -- Conversations, scripts and traces.
-use Rattle.std.proofs.Common.{◌≡◌, ℕ, ◌^◌, ◌<◌, Bool, true, false, eqb, List, [], ◌∷◌, ◌++◌, length, Some, None, Option, Ok, Err, Result, refl, sym, ap, ◌∙◌, arith}
+use Rattle.std.proofs.Common.{ℕ, ◌<◌, false, eqb, List, [], length, Some, Ok, Err, Result, refl, ap, ◌∙◌, arith}
 use Rattle.std.specs.Fmt.{digits}
 use Rattle.std.specs.Prelude.{codes}
 use Rattle.isa.specs.Decoding.{reading_of}
-use Rattle.bench.specs.Calls.{step_answer_for, stepped_for, stepped_state}
+use Rattle.bench.specs.Calls.{stepped_for, stepped_state}
 use Rattle.bench.specs.Law.{fresh}
-use Rattle.bench.specs.State.{State}
 use Rattle.benchfile.specs.declared.refusals.Refusal.TheVariants.{NotBenchFile}
 use Rattle.commands.specs.Lines.{lines_of_first}
 use Rattle.conversation.proofs.Kept as kept
@@ -59,7 +58,7 @@ pub fault : FaultOf (Err 7) (NoCommand 7) × (FaultOf (Err 7) (NoCommand 8) → 
 fault = (
   refl,
   λ e. apart (λ r. eqb (number_in r) 7) _ _ refl refl e,
-  λ e. apart (λ r. eqb (number_in r) 0) _ _ refl refl e
+  λ e. apart (λ r. eqb (number_in r) 0) _ _ refl refl e,
 )
 
 too_large : PcFits at_two_to_32 → ⊥

@@ -30,5 +30,4 @@ pub fn decides() -> usize
 #[tactic(auto, using(crate::proofs::Judging::whole))]
 pub fn whole_words()
     ensures { WholeWords (Ok (record { start = 0; base = 4; limit = 10; image = replicate 4 0 })) × (WholeWords (Ok (record { start = 0; base = 2; limit = 10; image = replicate 4 0 })) → ⊥) × (WholeWords (Ok (record { start = 0; base = 4; limit = 10; image = replicate 3 0 })) → ⊥) × (WholeWords (Ok (record { start = 0; base = 0xFFFFFFFC; limit = 10; image = replicate 8 0 })) → ⊥) }
-{
-}
+{}

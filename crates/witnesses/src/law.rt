@@ -21,32 +21,28 @@ use registers::RegisterFile;
 pub fn next()
     ensures made { Next one_open before (stepped one_open before) (Ok (made_in 3)) × (Next one_open before (stepped one_open before) (Ok (made_in 4)) → ⊥) }
     ensures refused { Next no_words empty.arch (stepped no_words empty.arch) (Err (record { phase = T0; address = 0; cause = Memory (refused NoWord 0) })) × (Next no_words empty.arch (stepped no_words empty.arch) (Err (record { phase = T0; address = 0; cause = UnalignedPc })) → ⊥) × (Next no_words empty.arch (stepped no_words empty.arch) (Ok (made_in 3)) → ⊥) }
-{
-}
+{}
 
 /// Of a new bench no instruction stands, and after a step one does.
 #[tactic(auto, using(crate::proofs::Standing::none, crate::proofs::Standing::one_stands))]
 pub fn stands()
     ensures new { Stands empty 0 (fresh_of empty) × (Stands empty 1 (fresh_of empty) → ⊥) }
     ensures stepped { Stands one 1 (stepped_state (fresh_of one)) × (Stands one 0 (stepped_state (fresh_of one)) → ⊥) }
-{
-}
+{}
 
 /// So it is with what calls lead to.
 #[tactic(auto, using(crate::proofs::Standing::none_reached, crate::proofs::Standing::one_reached))]
 pub fn reached()
     ensures new { Reached empty 0 (fresh_of empty) × (Reached empty 1 (fresh_of empty) → ⊥) }
     ensures stepped { Reached one 1 (stepped_state (fresh_of one)) × (Reached one 0 (stepped_state (fresh_of one)) → ⊥) }
-{
-}
+{}
 
 /// A step moves the count by one, and standing still does not.
 #[tactic(auto, using(crate::proofs::Keeping::count_moved, crate::proofs::Keeping::count_kept))]
 pub fn kept()
     ensures moved { Kept suc (fresh_of one) (stepped_state (fresh_of one)) × (Kept (λ (n : ℕ). n) (fresh_of one) (stepped_state (fresh_of one)) → ⊥) }
     ensures still { Kept (λ (n : ℕ). n) (fresh_of one) (fresh_of one) × (Kept suc (fresh_of one) (fresh_of one) → ⊥) }
-{
-}
+{}
 
 /// Each call keeps the law with its own answer, and not with one that moves the count otherwise.
 #[tactic(auto, using(crate::proofs::Keeping::tick, crate::proofs::Keeping::step, crate::proofs::Keeping::run, crate::proofs::Keeping::back))]
@@ -55,15 +51,13 @@ pub fn calls_kept()
     ensures step { StepKept (step_answer (fresh_of empty)) (fresh_of empty) (stepped_state (fresh_of empty)) × (StepKept (Ok (made_in 3)) (fresh_of empty) (stepped_state (fresh_of empty)) → ⊥) }
     ensures run { RunKept (run_answer 1 (fresh_of empty)) (fresh_of empty) (ran_state 1 (fresh_of empty)) × (RunKept (Ok 1) (fresh_of empty) (ran_state 1 (fresh_of empty)) → ⊥) }
     ensures back { BackKept (back_answer (fresh_of empty)) (fresh_of empty) (back_state (fresh_of empty)) × (BackKept (Ok 1) (fresh_of empty) (back_state (fresh_of empty)) → ⊥) }
-{
-}
+{}
 
 /// Nothing can be taken back of a new bench.
 #[tactic(auto, using(crate::proofs::Keeping::nothing_to_take))]
 pub fn stood()
     ensures { Stood 0 (fresh_of empty) × (Stood 1 (fresh_of empty) → ⊥) }
-{
-}
+{}
 
 /// A new bench over any memory begins there, and no bench that counts an instruction does.
 #[tactic(auto, using(crate::proofs::Keeping::counted_begins))]

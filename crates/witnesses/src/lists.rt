@@ -18,8 +18,7 @@ use session::{Answer, Call, Replayed, play, replay};
 #[tactic(auto, using(crate::proofs::Calling::short))]
 pub fn never_short()
     ensures { NeverShort 0 (answer.Stepped (Ok (made_in 3)) ∷ answer.Back (Ok 1) ∷ []) × (NeverShort 0 (answer.Back (Ok 1) ∷ answer.Stepped (Ok (made_in 3)) ∷ []) → ⊥) }
-{
-}
+{}
 
 /// A tick on a new bench over any memory is lawful with its answer, and with none it is not.
 pub fn lawful<M: WriteMemory>(memory: M, registers: RegisterFile, pc: u32) -> (Bench<M>, Answer)
@@ -37,7 +36,12 @@ pub fn lawful<M: WriteMemory>(memory: M, registers: RegisterFile, pc: u32) -> (B
 }
 
 /// A step on a new bench, and as many steps alone on another: not without its answer, and with no other count.
-pub fn replays<M: WriteMemory, S: WriteMemory>(memory: M, twin: S, registers: RegisterFile, pc: u32) -> (Replayed<M, S>, Answer)
+pub fn replays<M: WriteMemory, S: WriteMemory>(
+    memory: M,
+    twin: S,
+    registers: RegisterFile,
+    pc: u32,
+) -> (Replayed<M, S>, Answer)
     ensures made { result.0.made ≡ 1 }
     ensures answer { result.1 ≡ answer.Stepped (step_answer (new_state (M.ReadMemory.kinds memory) (M.ReadMemory.words memory) registers pc)) }
     ensures rest { M.WriteMemory.rest result.0.played.memory ≡ M.WriteMemory.rest memory }

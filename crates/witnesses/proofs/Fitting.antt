@@ -1,5 +1,5 @@
 -- What fits its format, and the words that carry it.
-use Rattle.std.proofs.Common.{◌≡◌, ℕ, ◌^◌, ◌<◌, eqb, pos, negsuc, refl, sym, ap, arith, Ok, Err, Result, MatchResult}
+use Rattle.std.proofs.Common.{◌≡◌, ◌<◌, eqb, pos, negsuc, refl, sym, ap, arith, Ok, Err, Result, MatchResult}
 use Rattle.std.specs.Ordering.{int_eq}
 use Rattle.isa.specs.declared.instruction.Instruction.{Instruction}
 use Rattle.isa.specs.declared.mnemonic.Format.TheVariants.{Immediate, Register}
@@ -7,13 +7,12 @@ use Rattle.isa.specs.declared.mnemonic.Mnemonic.TheVariants.{Add, Addi, Lui}
 use Rattle.isa.specs.declared.refusal.Refusal.{Refusal}
 use Rattle.isa.specs.declared.refusal.Refusal.TheVariants.{DoesNotFit}
 use Rattle.isa.specs.Fitting.{Fits}
-use Rattle.isa.specs.Reading.{Reads}
 use Rattle.isa.specs.Refusals.{number_of}
 use Rattle.isa.specs.Table.{row_of}
 use Rattle.encode.proofs.Unique.{same_word}
 use Rattle.encode.specs.Words.{Carries, Filled, FilledUpper, Only, Within, Written}
 use Rattle.witnesses.proofs.Apart.{apart}
-use Rattle.witnesses.specs.Reading.{add, addi, beq, jal, lui, slli}
+use Rattle.witnesses.specs.Reading.{add, addi, beq, jal, lui, slli, sw}
 
 fits : Fits (addi (pos 2047))
 fits = search arith
@@ -29,10 +28,14 @@ pub came_back : (r : Result Instruction Refusal) → MatchResult r (λ j. (j ≡
 came_back (Ok j) m = rw m.0 refl
 came_back (Err e) m = absurd (m.1 fits)
 
-pub no_word : (r : Result ℕ Refusal) → MatchResult r (λ w. (w < 2 ^ 32) × Reads w (addi (pos 2048)) × Fits (addi (pos 2048))) (λ e. (number_of e ≡ 10) × (Fits (addi (pos 2048)) → ⊥)) →
-    r ≡ Err DoesNotFit
-no_word (Ok w) m = absurd (fits_not m.2)
-no_word (Err e) m = grind (arith, m.0)
+no_register : Fits (record add { rd = 32 }) → ⊥
+no_register f = let l : 32 < 32 = f.0 in omega arith
+
+pub registers : Fits add × (Fits (record add { rd = 32 }) → ⊥) × (Fits (record add { immediate = pos 1 }) → ⊥)
+registers = (search arith, no_register, λ f. apart (λ z. int_eq z (pos 1)) (pos 1) (pos 0) refl refl f.3)
+
+pub stores : Fits (sw (negsuc 2047)) × (Fits (sw (negsuc 2048)) → ⊥)
+stores = (search arith, λ f. grind arith)
 
 pub branches : Fits (beq (pos 4094)) × (Fits (beq (pos 4096)) → ⊥) × (Fits (beq (pos 4093)) → ⊥)
 branches = (search arith, λ f. grind arith, λ f. apart (λ n. eqb n 1) 1 0 refl refl f.3.1)

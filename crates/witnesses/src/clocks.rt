@@ -1,4 +1,4 @@
-ghost use Rattle.std.specs.Prelude.{◌≡◌, true, false, Ok, Err};
+ghost use Rattle.std.specs.Prelude.{◌≡◌, true, false, Ok};
 ghost use Rattle.arch1.specs.Clock.{idle};
 ghost use Rattle.arch1.specs.Owes.{Owes, clocks_of_class, within};
 ghost use Rattle.arch1.specs.Refinement.{Carries, Keeps, Refines, Stands, StillOpen, answer_for, rig, rig_for, start_of};

@@ -1,4 +1,4 @@
-ghost use Rattle.std.specs.Prelude.{◌≡◌, Ok, [], ◌∷◌, replicate};
+ghost use Rattle.std.specs.Prelude.{◌≡◌, Ok, replicate};
 ghost use Rattle.benchfile.specs.Header.{header_of};
 ghost use Rattle.benchfile.specs.Laws.{Decides, GetsTheVerdict, ReadsBack, WholeWords};
 

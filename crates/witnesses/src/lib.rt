@@ -26,8 +26,8 @@ pub use law::{begins, calls_kept, kept, next, reached, stands, stood};
 pub use lines::{names, numbers, numerals, read, says, sized, tells};
 pub use lists::{lawful, never_short, replays};
 pub use reading::{
-    carries, does_not_fit, ends, every, filled, fits, found, mnemonic_named, only_mnemonic, reads,
-    selects, within, written,
+    carries, ends, every, filled, fits, found, mnemonic_named, only_mnemonic, reads, selects,
+    within, written,
 };
 pub use runs::ran;
 pub use texts::{adds, fault_of, line_kept, listed, pc_fits, sent_over, turn, whole_listing};

@@ -1,7 +1,7 @@
-ghost use Rattle.std.specs.Prelude.{◌≡◌, ℕ, suc, Ok, [], ◌∷◌};
+ghost use Rattle.std.specs.Prelude.{◌≡◌, suc, Ok, [], ◌∷◌};
 ghost use Rattle.bench.specs.Calls.{new_state, step_answer, tick_answer, ticked_state};
 ghost use Rattle.bench.specs.Law.{start_over};
-ghost use Rattle.bench.specs.State.{State, state_of};
+ghost use Rattle.bench.specs.State.{state_of};
 ghost use Rattle.session.specs.Lawful.{Lawful, LawfulSomewhere};
 ghost use Rattle.session.specs.Lists.{NeverShort, standing};
 ghost use Rattle.session.specs.Replays.{Replays};

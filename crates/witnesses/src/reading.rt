@@ -13,11 +13,11 @@ ghost use Rattle.actions.specs.declared.action.Action.TheVariants.{CompI};
 ghost use Rattle.alu.specs.declared.operations.Operation.TheVariants as operation;
 ghost use Rattle.isa.specs.Decoding.{reading_of};
 ghost use Rattle.vectors.specs.Examples.{Every, reads};
-ghost use Rattle.witnesses.specs.Reading.{add, addi, beq, jal, lui, slli};
+ghost use Rattle.witnesses.specs.Reading.{add, addi, beq, jal, lui, slli, sw};
 
 use actions::{Action, action_of};
 use decode::decode;
-use encode::{decode_encoded, encode};
+use encode::decode_encoded;
 use isa::{Instruction, Mnemonic, Refusal};
 
 /// A word reads as `addi x1, x0, 5`, and not as the same with 6. `OneInstruction` holds of every word; this is one that reads as an instruction.
@@ -74,23 +74,11 @@ pub fn fits() -> Result<Instruction, Refusal>
     })
 }
 
-/// With 2048 it does not, and so it has no word.
-#[tactic(auto, using(crate::proofs::Fitting::no_word))]
-pub fn does_not_fit() -> Result<u32, Refusal>
-    ensures { result ≡ Err DoesNotFit }
-{
-    encode(&Instruction {
-        mnemonic: Mnemonic::Addi,
-        rd: 1,
-        rs1: 0,
-        rs2: 0,
-        immediate: 2048,
-    })
-}
-
-/// The ends of the other ranges, and offsets and upper parts that are no multiples.
-#[tactic(auto, using(crate::proofs::Fitting::branches, crate::proofs::Fitting::jumps, crate::proofs::Fitting::shifts, crate::proofs::Fitting::uppers))]
+/// The ends of the other ranges, offsets and upper parts that are no multiples, no such register, and an immediate where there is none.
+#[tactic(auto, using(crate::proofs::Fitting::registers, crate::proofs::Fitting::stores, crate::proofs::Fitting::branches, crate::proofs::Fitting::jumps, crate::proofs::Fitting::shifts, crate::proofs::Fitting::uppers))]
 pub fn ends()
+    ensures registers { Fits add × (Fits (record add { rd = 32 }) → ⊥) × (Fits (record add { immediate = pos 1 }) → ⊥) }
+    ensures store { Fits (sw (negsuc 2047)) × (Fits (sw (negsuc 2048)) → ⊥) }
     ensures branch { Fits (beq (pos 4094)) × (Fits (beq (pos 4096)) → ⊥) × (Fits (beq (pos 4093)) → ⊥) }
     ensures jump { Fits (jal (negsuc 1048575)) × (Fits (jal (pos 1048576)) → ⊥) }
     ensures shift { Fits (slli (pos 31)) × (Fits (slli (pos 32)) → ⊥) }

@@ -1,4 +1,4 @@
-ghost use Rattle.std.specs.Prelude.{◌≡◌, ℕ, ◌++◌, true, false, [], ◌∷◌, Some, None, Ok, Err, codes};
+ghost use Rattle.std.specs.Prelude.{false, [], ◌∷◌, Some, Ok, Err, codes};
 ghost use Rattle.bench.specs.Calls.{stepped_state};
 ghost use Rattle.benchfile.specs.declared.refusals.Refusal.TheVariants.{NotBenchFile};
 ghost use Rattle.conversation.specs.Conversations.{Turn};

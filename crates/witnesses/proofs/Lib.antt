@@ -1,0 +1,15 @@
+pub mod Apart
+pub mod Beats
+pub mod Bytes
+pub mod Calling
+pub mod Fitting
+pub mod Judging
+pub mod Keeping
+pub mod Listing
+pub mod Owing
+pub mod Phases
+pub mod Readings
+pub mod Rows
+pub mod Saying
+pub mod Standing
+pub mod Talking

@@ -1,0 +1,68 @@
+-- Conversations, scripts and traces.
+use Rattle.std.proofs.Common.{ℕ, ◌<◌, false, eqb, List, [], length, Some, Ok, Err, Result, refl, ap, ◌∙◌, arith}
+use Rattle.std.specs.Fmt.{digits}
+use Rattle.std.specs.Prelude.{codes}
+use Rattle.isa.specs.Decoding.{reading_of}
+use Rattle.bench.specs.Calls.{stepped_for, stepped_state}
+use Rattle.bench.specs.Law.{fresh}
+use Rattle.benchfile.specs.declared.refusals.Refusal.TheVariants.{NotBenchFile}
+use Rattle.commands.specs.Lines.{lines_of_first}
+use Rattle.conversation.proofs.Kept as kept
+use Rattle.conversation.specs.Conversations.{Turn, conversation, led_to}
+use Rattle.conversation.specs.Files.{SentOver}
+use Rattle.conversation.specs.Replies.{LineKept}
+use Rattle.script.specs.Script.{FaultOf}
+use Rattle.script.specs.declared.fault.ScriptFault.TheVariants.{NoCommand}
+use Rattle.session.specs.Lawful.{fresh_of}
+use Rattle.session.specs.declared.call.Call.{Call}
+use Rattle.tracer.specs.Steps.{PcFits}
+use Rattle.witnesses.proofs.Apart.{apart}
+use Rattle.witnesses.specs.Benches.{empty, one}
+use Rattle.witnesses.specs.Files.{at_two_to_32, file, plain}
+
+not_by_look : LineKept (codes "look pc") (fresh_of one) (stepped_state (fresh_of one)) → ⊥
+unfolding reading_of stepped_for LineKept
+not_by_look k = apart (λ n. eqb n 1) 1 0 refl refl (k.stands one 0 fresh).retired
+
+pub step_line : LineKept (codes "step") (fresh_of one) (stepped_state (fresh_of one)) × (LineKept (codes "look pc") (fresh_of one) (stepped_state (fresh_of one)) → ⊥)
+step_line = (kept.line_kept (codes "step") (fresh_of one) (stepped_state (fresh_of one)) refl, not_by_look)
+
+here : Turn false (fresh_of one) (fresh_of one) [] (Some []) (Some []) (Some [])
+unfolding conversation led_to lines_of_first
+here = record { rest = []; sent = []; reads = λ e. refl; wrote = refl; says = refl; leads = refl }
+
+elsewhere : Turn false (fresh_of one) (stepped_state (fresh_of one)) [] (Some []) (Some []) (Some []) → ⊥
+unfolding conversation led_to lines_of_first reading_of stepped_for
+elsewhere t = apart (λ n. eqb n 0) 0 1 refl refl (ap (λ s. s.retired) t.leads)
+
+more_sent : Turn false (fresh_of one) (fresh_of one) [] (Some []) (Some []) (Some (codes "a")) → ⊥
+unfolding conversation lines_of_first
+more_sent t = apart (λ l. eqb (length l) 1) (codes "a") [] refl refl (t.wrote ∙ grind (arith, t.says))
+
+pub ended : Turn false (fresh_of one) (fresh_of one) [] (Some []) (Some []) (Some []) × (Turn false (fresh_of one) (stepped_state (fresh_of one)) [] (Some []) (Some []) (Some []) → ⊥) × (Turn false (fresh_of one) (fresh_of one) [] (Some []) (Some []) (Some (codes "a")) → ⊥)
+ended = (here, elsewhere, more_sent)
+
+pub over_file : SentOver (Ok file) plain (Some []) (Some []) (Some []) × (SentOver (Ok file) plain (Some []) (Some []) (Some (codes "a")) → ⊥)
+unfolding conversation lines_of_first
+over_file = (refl, λ s. apart (λ l. eqb (length l) 1) (codes "a") [] refl refl s)
+
+pub over_none : SentOver (Err NotBenchFile) plain (Some []) (Some []) (Some (codes "file 11\n")) × (SentOver (Err NotBenchFile) plain (Some []) (Some []) (Some []) → ⊥)
+unfolding digits
+over_none = (refl, λ s. apart (λ l. eqb (length l) 0) [] (codes "file 11\n") refl refl s)
+
+abbrev number_in : Result (List Call) ℕ → ℕ
+number_in (Ok cs) = 0
+number_in (Err n) = n
+
+pub fault : FaultOf (Err 7) (NoCommand 7) × (FaultOf (Err 7) (NoCommand 8) → ⊥) × (FaultOf (Ok []) (NoCommand 7) → ⊥)
+fault = (
+  refl,
+  λ e. apart (λ r. eqb (number_in r) 7) _ _ refl refl e,
+  λ e. apart (λ r. eqb (number_in r) 0) _ _ refl refl e,
+)
+
+too_large : PcFits at_two_to_32 → ⊥
+too_large p = let l : 4294967296 < 4294967296 = p.fits in omega arith
+
+pub fits : PcFits (fresh_of empty) × (PcFits at_two_to_32 → ⊥)
+fits = (record { fits = omega arith }, too_large)

@@ -1,0 +1,5 @@
+pub mod Reading
+pub mod Memories
+pub mod Machines
+pub mod Benches
+pub mod Files

@@ -1,0 +1,33 @@
+//! States that meet a relation and states that do not, for each relation and law that the contracts cite.
+//!
+//! A promise by a relation that everything meets says nothing, and one by a relation that nothing meets cannot be kept.
+//! Neither shows in the proofs of the code, so it is shown here.
+
+#![tactic(auto)]
+
+mod cells;
+mod clocks;
+mod files;
+mod lanes;
+mod law;
+mod lines;
+mod lists;
+mod reading;
+mod runs;
+mod texts;
+
+pub use cells::{cell_laws, rest, wrote};
+pub use clocks::{
+    carries_out, clocked, keeps, owes, refines, refuses, retires, stands_between, still_open,
+};
+pub use files::{decides, verdict, whole_words};
+pub use lanes::{each_lane, placed};
+pub use law::{begins, calls_kept, kept, next, reached, stands, stood};
+pub use lines::{names, numbers, numerals, read, says, sized, tells};
+pub use lists::{lawful, never_short, replays};
+pub use reading::{
+    carries, ends, every, filled, fits, found, mnemonic_named, only_mnemonic, reads, selects,
+    within, written,
+};
+pub use runs::ran;
+pub use texts::{adds, fault_of, line_kept, listed, pc_fits, sent_over, turn, whole_listing};

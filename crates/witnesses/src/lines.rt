@@ -1,0 +1,54 @@
+ghost use Rattle.std.specs.Prelude.{◌≡◌, ℕ, ◌^◌, [], codes};
+ghost use Rattle.bench.specs.declared.look.Look.TheVariants as look;
+ghost use Rattle.commands.specs.Table.{Names, Number, Numeral, Reads, Says, Tells};
+ghost use Rattle.commands.specs.Writing.{IsSized};
+ghost use Rattle.commands.specs.declared.command.Command.TheVariants as command;
+ghost use Rattle.commands.specs.declared.command.Line.TheVariants as line;
+ghost use Rattle.session.specs.declared.call.Call.TheVariants as call;
+
+use commands::{Line, read_line};
+
+/// Digits are a number in their base, and no other one; other letters are none, and neither is what has more than 32 bits.
+#[tactic(auto, using(crate::proofs::Saying::numeral))]
+pub fn numerals()
+    ensures { Numeral 10 (codes "12") 12 × (Numeral 10 (codes "12") 13 → ⊥) × ((n : ℕ) → Numeral 10 (codes "1f") n → ⊥) × ((n : ℕ) → Numeral 10 (codes "4294967296") n → ⊥) }
+{}
+
+/// Behind 0x it is hexadecimal.
+#[tactic(auto, using(crate::proofs::Saying::number))]
+pub fn numbers()
+    ensures { Number (codes "0x1f") 31 × (Number (codes "0x1f") 1 → ⊥) }
+{}
+
+/// x7 names one register.
+#[tactic(auto, using(crate::proofs::Saying::register))]
+pub fn names()
+    ensures { Names (codes "x7") (look.Register 7) × (Names (codes "x7") (look.Register 8) → ⊥) }
+{}
+
+/// A line says one command.
+#[tactic(auto, using(crate::proofs::Saying::run))]
+pub fn says()
+    ensures { Says (codes "run 12") (command.Call (call.Run 12)) × (Says (codes "run 12") (command.Call (call.Run 13)) → ⊥) }
+{}
+
+/// Only a line of no bytes tells nothing. That a line may be no command, `Tells` leaves open; `Reads` does not.
+#[tactic(auto, using(crate::proofs::Saying::nothing))]
+pub fn tells()
+    ensures { Tells [] line.Empty × (Tells (codes "tick") line.Empty → ⊥) }
+{}
+
+/// A line that says a command is read as that, and as nothing else.
+#[tactic(auto, using(crate::proofs::Saying::line_read, crate::proofs::Saying::reads))]
+pub fn read() -> Line
+    ensures value { result ≡ line.Command (command.Call (call.Run 12)) }
+    ensures shown { Reads (codes "run 12") (line.Command (command.Call (call.Run 12))) × (Reads (codes "run 12") line.Other → ⊥) × (Reads (codes "run 12") (line.Command (command.Call (call.Run 13))) → ⊥) }
+{
+    read_line(b"run 12")
+}
+
+/// Numbers have the bits of their types.
+#[tactic(auto, using(crate::proofs::Saying::sizes))]
+pub fn sized()
+    ensures { IsSized (command.Call (call.Run 5)) × (IsSized (command.Call (call.Run (2 ^ 32))) → ⊥) × (IsSized (command.Call (call.Look (look.Register 256))) → ⊥) }
+{}

@@ -17,7 +17,7 @@ use Rattle.memory.specs.declared.kind.Kind.{Kind}
 use Rattle.processor.specs.Clocks as beat
 use Rattle.processor.specs.Clocks.{Beat, Clocked, Refuses, Retires, on}
 use Rattle.witnesses.proofs.Apart.{apart}
-use Rattle.witnesses.proofs.Owing.{owed_phase, stands_at}
+use Rattle.witnesses.proofs.Owing.{owed_phase, rests_at}
 use Rattle.witnesses.specs.Machines.{word, words, before, behind, at, one_clock, rig_at}
 use Rattle.witnesses.specs.Memories.{one_open}
 
@@ -79,7 +79,7 @@ open_for = ((refl, (refl, tt)), λ o. apart is_on on beat.retired refl refl (sym
 pub carrying : Carries one_open before (stepped one_open before) (Ok 3) (rig_at behind) × (Carries one_open before (stepped one_open before) (Ok 4) (rig_at behind) → ⊥) × (Carries one_open before (stepped one_open before) (Ok 3) (rig_at before) → ⊥)
 unfolding reading_of
 carrying = (
-  (refl, stands_at behind),
+  (refl, rests_at behind),
   λ c. apart (λ n. eqb n 4) 4 3 refl refl c.0,
   λ c. apart (λ n. eqb n 0) 0 4 refl refl c.1.pc,
 )

@@ -7,7 +7,6 @@ pub mod Judging
 pub mod Keeping
 pub mod Listing
 pub mod Owing
-pub mod Phases
 pub mod Readings
 pub mod Rows
 pub mod Saying

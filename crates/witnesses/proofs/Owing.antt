@@ -4,7 +4,7 @@ use Rattle.arch1.proofs.Owed.{owes_pc}
 use Rattle.arch1.specs.Datapath.{Datapath}
 use Rattle.arch1.specs.Owes.{Owes, idle, fetched, decoded, loading, branching, within}
 use Rattle.arch1.specs.Phases.{phase_number}
-use Rattle.arch1.specs.Refinement.{Stands}
+use Rattle.arch1.specs.Refinement.{RestsAt}
 use Rattle.arch1.specs.declared.phase.Phase.TheVariants.{T2}
 use Rattle.machine.specs.Machine.{Arch, fetched_word}
 use Rattle.machine.specs.declared.cause.Cause.{Cause}
@@ -42,8 +42,8 @@ count = (fetched 0 word 0 false refl, λ o. apart (λ n. eqb n 1) 1 0 refl refl 
 pub read : Owes one_open before 2 (within before word 0 0 false T2) × (Owes one_open before 2 (within before 0 0 0 false T2) → ⊥)
 read = (decoded word 0 0 false refl, λ o. apart is_word _ _ refl refl (owed_word one_open before 2 (within before 0 0 0 false T2) o refl))
 
-pub stands_at : (a : Arch) → Stands one_open a (rig_at a)
-stands_at a = record { owes = idle 0 0 0 0 false; phase = refl; pc = refl; registers = refl; words = refl }
+pub rests_at : (a : Arch) → RestsAt one_open a (rig_at a)
+rests_at a = record { owes = idle 0 0 0 0 false; phase = refl; pc = refl; registers = refl; words = refl }
 
-pub standing : Stands one_open before (rig_at before) × (Stands one_open behind (rig_at before) → ⊥)
-standing = (stands_at before, λ s. apart (λ n. eqb n 0) 0 4 refl refl s.pc)
+pub resting : RestsAt one_open before (rig_at before) × (RestsAt one_open behind (rig_at before) → ⊥)
+resting = (rests_at before, λ s. apart (λ n. eqb n 0) 0 4 refl refl s.pc)

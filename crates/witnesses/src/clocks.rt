@@ -1,7 +1,7 @@
 ghost use Rattle.std.specs.Prelude.{◌≡◌, true, false, Ok};
 ghost use Rattle.arch1.specs.Clock.{idle};
 ghost use Rattle.arch1.specs.Owes.{Owes, clocks_of_class, within};
-ghost use Rattle.arch1.specs.Refinement.{Carries, Keeps, Refines, Stands, StillOpen, answer_for, rig, rig_for, start_of};
+ghost use Rattle.arch1.specs.Refinement.{Carries, Keeps, Refines, RestsAt, StillOpen, answer_for, machine_at, rig, rig_for};
 ghost use Rattle.arch1.specs.declared.phase.Phase.TheVariants.{T1, T2};
 ghost use Rattle.machine.specs.Machine.{stepped};
 ghost use Rattle.machine.specs.declared.cause.Cause.TheVariants.{Memory, UnalignedPc};
@@ -23,10 +23,10 @@ pub fn owes()
     ensures read { Owes one_open before 2 (within before word 0 0 false T2) × (Owes one_open before 2 (within before 0 0 0 false T2) → ⊥) }
 {}
 
-/// A core stands where it is, and nowhere else.
-#[tactic(auto, using(crate::proofs::Owing::standing))]
-pub fn stands_between()
-    ensures { Stands one_open before (rig_at before) × (Stands one_open behind (rig_at before) → ⊥) }
+/// A core rests where it is, and nowhere else.
+#[tactic(auto, using(crate::proofs::Owing::resting))]
+pub fn rests_at()
+    ensures { RestsAt one_open before (rig_at before) × (RestsAt one_open behind (rig_at before) → ⊥) }
 {}
 
 /// The first clock goes on, and one that did nothing would not.
@@ -76,8 +76,8 @@ pub fn refines<M: WriteMemory>(
     ensures state { rig result.0 (M.ReadMemory.words memory.new) ≡ rig_for (M.ReadMemory.kinds memory.old) 4 (rig (idle registers pc) (M.ReadMemory.words memory.old)) }
     ensures kinds { M.ReadMemory.kinds memory.new ≡ M.ReadMemory.kinds memory.old }
     ensures rest { M.WriteMemory.rest memory.new ≡ M.WriteMemory.rest memory.old }
-    ensures met { Refines (M.ReadMemory.kinds memory.old) (start_of (idle registers pc) (M.ReadMemory.words memory.old)) (rig (idle registers pc) (M.ReadMemory.words memory.old)) result.1 (rig result.0 (M.ReadMemory.words memory.new)) }
-    ensures missed { Refines (M.ReadMemory.kinds memory.old) (start_of (idle registers pc) (M.ReadMemory.words memory.old)) (rig (idle registers pc) (M.ReadMemory.words memory.old)) (Ok 5) (rig result.0 (M.ReadMemory.words memory.new)) → ⊥ }
+    ensures met { Refines (M.ReadMemory.kinds memory.old) (machine_at (idle registers pc) (M.ReadMemory.words memory.old)) (rig (idle registers pc) (M.ReadMemory.words memory.old)) result.1 (rig result.0 (M.ReadMemory.words memory.new)) }
+    ensures missed { Refines (M.ReadMemory.kinds memory.old) (machine_at (idle registers pc) (M.ReadMemory.words memory.old)) (rig (idle registers pc) (M.ReadMemory.words memory.old)) (Ok 5) (rig result.0 (M.ReadMemory.words memory.new)) → ⊥ }
 {
     let mut core = Core::new(registers, pc);
     let answer = core.instruction(memory);

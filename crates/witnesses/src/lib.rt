@@ -13,12 +13,11 @@ mod law;
 mod lines;
 mod lists;
 mod reading;
-mod runs;
 mod texts;
 
 pub use cells::{cell_laws, rest, wrote};
 pub use clocks::{
-    carries_out, clocked, keeps, owes, refines, refuses, retires, stands_between, still_open,
+    carries_out, clocked, keeps, owes, refines, refuses, retires, rests_at, still_open,
 };
 pub use files::{decides, verdict, whole_words};
 pub use lanes::{each_lane, placed};
@@ -29,5 +28,4 @@ pub use reading::{
     carries, ends, every, filled, fits, found, mnemonic_named, only_mnemonic, reads, selects,
     within, written,
 };
-pub use runs::ran;
 pub use texts::{adds, fault_of, line_kept, listed, pc_fits, sent_over, turn, whole_listing};

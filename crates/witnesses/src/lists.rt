@@ -2,7 +2,7 @@ ghost use Rattle.std.specs.Prelude.{◌≡◌, suc, Ok, [], ◌∷◌};
 ghost use Rattle.bench.specs.Calls.{new_state, step_answer, tick_answer, ticked_state};
 ghost use Rattle.bench.specs.Law.{start_over};
 ghost use Rattle.bench.specs.State.{state_of};
-ghost use Rattle.session.specs.Lawful.{Lawful, LawfulSomewhere};
+ghost use Rattle.session.specs.Lawful.{Lawful};
 ghost use Rattle.session.specs.Lists.{NeverShort, standing};
 ghost use Rattle.session.specs.Replays.{Replays};
 ghost use Rattle.session.specs.declared.call.Answer.TheVariants as answer;
@@ -27,8 +27,6 @@ pub fn lawful<M: WriteMemory>(memory: M, registers: RegisterFile, pc: u32) -> (B
     ensures rest { M.WriteMemory.rest result.0.memory ≡ M.WriteMemory.rest memory }
     ensures met { Lawful (start_over M.ReadMemory memory registers pc) (call.Tick ∷ []) (result.1 ∷ []) (state_of M.ReadMemory result.0) }
     ensures missed { Lawful (start_over M.ReadMemory memory registers pc) (call.Tick ∷ []) [] (state_of M.ReadMemory result.0) → ⊥ }
-    ensures met_somewhere { LawfulSomewhere (start_over M.ReadMemory memory registers pc) (call.Tick ∷ []) (result.1 ∷ []) }
-    ensures missed_somewhere { LawfulSomewhere (start_over M.ReadMemory memory registers pc) (call.Tick ∷ []) [] → ⊥ }
 {
     let mut places = [Answer::Looked(Ok(0))];
     let (bench, _) = play(memory, registers, pc, &[Call::Tick], &mut places);

@@ -1,4 +1,4 @@
 mod Growing
 mod Telling
-mod Alike
+pub mod Alike
 mod Starts

@@ -1,2 +1,2 @@
-mod Prefixes
-mod Steps
+pub mod Prefixes
+pub mod Steps

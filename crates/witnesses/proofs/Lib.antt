@@ -12,3 +12,4 @@ pub mod Rows
 pub mod Saying
 pub mod Standing
 pub mod Talking
+pub mod Telling

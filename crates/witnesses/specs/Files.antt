@@ -4,6 +4,7 @@ use Rattle.assembly.specs.Assembly.{text_of}
 use Rattle.bench.specs.Calls.{new_state}
 use Rattle.bench.specs.State.{State}
 use Rattle.benchfile.specs.Format.{Contents}
+use Rattle.playback.specs.declared.states.Span.{Span}
 use Rattle.report.specs.Lines.{line_of}
 use Rattle.setup.specs.declared.options.Options.{Options}
 use Rattle.witnesses.specs.Benches.{no_words}
@@ -24,3 +25,7 @@ line = line_of 0 word (text_of (addi (pos 5))) ++ []
 
 abbrev pub at_two_to_32 : State
 at_two_to_32 = new_state no_words zeros (replicate 32 0) (2 ^ 32)
+
+-- no bytes of a memory
+abbrev pub no_bytes : Span
+no_bytes = record { from = 0; length = 0 }

@@ -1,6 +1,7 @@
-ghost use Rattle.std.specs.Prelude.{◌≡◌, Ok, replicate};
+ghost use Rattle.std.specs.Prelude.{◌≡◌, [], Ok, Err, replicate};
 ghost use Rattle.benchfile.specs.Header.{header_of};
-ghost use Rattle.benchfile.specs.Laws.{Decides, GetsTheVerdict, ReadsBack, WholeWords};
+ghost use Rattle.benchfile.specs.Laws.{Begins, Decides, GetsTheVerdict, Holds, Judges, ReadsBack, WholeWords, mark};
+ghost use Rattle.benchfile.specs.declared.refusals.Refusal.TheVariants.{Header, NotBenchFile, Version};
 
 use benchfile::{enough_bytes, header};
 
@@ -25,6 +26,25 @@ pub fn decides() -> usize
 {
     enough_bytes()
 }
+
+/// A file of no image is what its header says, and no other.
+#[tactic(auto, using(crate::proofs::Judging::held))]
+pub fn holds()
+    ensures { Holds (header_of 0 0 0 10) (record { start = 0; base = 0; limit = 10; image = [] }) × (Holds (header_of 0 0 0 10) (record { start = 0; base = 0; limit = 11; image = [] }) → ⊥) }
+{}
+
+/// It has the mark, and neither no bytes nor zeros have.
+#[tactic(auto, using(crate::proofs::Judging::begun))]
+pub fn begins_with()
+    ensures { Begins mark (header_of 0 0 0 10) × (Begins mark [] → ⊥) × (Begins mark (replicate 24 0) → ⊥) }
+{}
+
+/// It is accepted as that, and not refused; and no bytes are refused for the want of a mark.
+#[tactic(auto, using(crate::proofs::Judging::accepted_as, crate::proofs::Judging::unmarked_for))]
+pub fn judges()
+    ensures accepted { Judges (header_of 0 0 0 10) (Ok (record { start = 0; base = 0; limit = 10; image = [] })) × (Judges (header_of 0 0 0 10) (Ok (record { start = 0; base = 0; limit = 11; image = [] })) → ⊥) × (Judges (header_of 0 0 0 10) (Err Header) → ⊥) }
+    ensures refused { Judges [] (Err NotBenchFile) × (Judges [] (Err Version) → ⊥) }
+{}
 
 /// One word at address 4: not at 2, not of three bytes, and not two of them at the last address of a word.
 #[tactic(auto, using(crate::proofs::Judging::whole))]

@@ -12,6 +12,7 @@ mod lanes;
 mod law;
 mod lines;
 mod lists;
+mod played;
 mod reading;
 mod texts;
 
@@ -19,11 +20,12 @@ pub use cells::{cell_laws, rest, wrote};
 pub use clocks::{
     carries_out, clocked, keeps, owes, refines, refuses, retires, rests_at, still_open,
 };
-pub use files::{decides, verdict, whole_words};
+pub use files::{begins_with, decides, holds, judges, verdict, whole_words};
 pub use lanes::{each_lane, placed};
 pub use law::{begins, calls_kept, kept, next, reached, stands, stood};
 pub use lines::{names, numbers, numerals, read, says, sized, tells};
 pub use lists::{lawful, never_short, replays};
+pub use played::{plays, prints, transcript};
 pub use reading::{
     carries, ends, every, filled, fits, found, mnemonic_named, only_mnemonic, reads, selects,
     within, written,

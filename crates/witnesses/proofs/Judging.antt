@@ -6,7 +6,7 @@ use Rattle.benchfile.specs.Header.{header_of}
 use Rattle.benchfile.specs.Laws.{Begins, Decides, GetsTheVerdict, Holds, Judges, ReadsBack, WholeWords, accepted, unlimited, empty, other_version, unmarked, mark}
 use Rattle.benchfile.specs.Refusals.{number_of}
 use Rattle.benchfile.specs.declared.refusals.Refusal.{Refusal}
-use Rattle.benchfile.specs.declared.refusals.Refusal.TheVariants.{Header, Limit, NotBenchFile, Version}
+use Rattle.benchfile.specs.declared.refusals.Refusal.TheVariants.{Header, NotBenchFile, Version}
 use Rattle.witnesses.proofs.Apart.{apart}
 
 abbrev limit_in : Result Contents Refusal → ℕ
@@ -55,7 +55,7 @@ pub begun : Begins mark (header_of 0 0 0 10) × (Begins mark [] → ⊥) × (Beg
 begun = (
   record { room = omega arith; rest = 1 ∷ replicate 14 0 ++ (0 ∷ 0 ∷ 10 ∷ 0 ∷ 0 ∷ 0 ∷ []); same = refl },
   no_room,
-  λ b. apart (λ l. eqb (get_or l 0 0) 0) _ _ refl refl b.same
+  λ b. apart (λ l. eqb (get_or l 0 0) 0) _ _ refl refl b.same,
 )
 
 -- the number of an answer's refusal, and what is accepted
@@ -95,7 +95,7 @@ pub accepted_as : Judges (header_of 0 0 0 10) (Ok (no_image 10)) × (Judges (hea
 accepted_as = (
   accepted here (omega arith),
   λ j. not_eleven (holds_if (header_of 0 0 0 10) (Ok (no_image 11)) j (no_image 11) refl),
-  λ j. nothing_holds (header_of 0 0 0 10) (Err Header) j refl (no_image 10) here
+  λ j. nothing_holds (header_of 0 0 0 10) (Err Header) j refl (no_image 10) here,
 )
 
 pub unmarked_for : Judges [] (Err NotBenchFile) × (Judges [] (Err Version) → ⊥)

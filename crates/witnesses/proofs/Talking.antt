@@ -1,5 +1,5 @@
 -- Conversations, scripts and traces.
-use Rattle.std.proofs.Common.{ℕ, ◌<◌, false, eqb, List, [], length, Some, Ok, Err, Result, refl, ap, ◌∙◌, arith}
+use Rattle.std.proofs.Common.{ℕ, suc, ◌<◌, Bool, true, false, eqb, List, [], length, Some, Ok, Err, Result, refl, ap, ◌∙◌, arith}
 use Rattle.std.specs.Fmt.{digits}
 use Rattle.std.specs.Prelude.{codes}
 use Rattle.isa.specs.Decoding.{reading_of}
@@ -8,15 +8,18 @@ use Rattle.bench.specs.Law.{fresh}
 use Rattle.benchfile.specs.declared.refusals.Refusal.TheVariants.{NotBenchFile}
 use Rattle.commands.specs.Lines.{lines_of_first}
 use Rattle.conversation.proofs.Kept as kept
-use Rattle.conversation.specs.Conversations.{Turn, conversation, led_to}
+use Rattle.conversation.specs.Conversations.{StaysLawful, Turn, conversation, led_to}
 use Rattle.conversation.specs.Files.{SentOver}
 use Rattle.conversation.specs.Replies.{LineKept}
+use Rattle.memory.specs.declared.kind.Kind.{Kind}
+use Rattle.memory.specs.declared.kind.Kind.TheVariants.{Absent, Open}
 use Rattle.script.specs.Script.{FaultOf}
 use Rattle.script.specs.declared.fault.ScriptFault.TheVariants.{NoCommand}
 use Rattle.session.specs.Lawful.{fresh_of}
 use Rattle.session.specs.declared.call.Call.{Call}
 use Rattle.tracer.specs.Steps.{PcFits}
 use Rattle.witnesses.proofs.Apart.{apart}
+use Rattle.witnesses.proofs.Keeping.{count_moved}
 use Rattle.witnesses.specs.Benches.{empty, one}
 use Rattle.witnesses.specs.Files.{at_two_to_32, file, plain}
 
@@ -26,6 +29,16 @@ not_by_look k = apart (λ n. eqb n 1) 1 0 refl refl (k.stands one 0 fresh).retir
 
 pub step_line : LineKept (codes "step") (fresh_of one) (stepped_state (fresh_of one)) × (LineKept (codes "look pc") (fresh_of one) (stepped_state (fresh_of one)) → ⊥)
 step_line = (kept.line_kept (codes "step") (fresh_of one) (stepped_state (fresh_of one)) refl, not_by_look)
+
+abbrev is_open : Kind → Bool
+is_open Open = true
+is_open _ = false
+
+pub stays : StaysLawful (fresh_of one) (stepped_state (fresh_of one)) × (StaysLawful (fresh_of empty) (fresh_of one) → ⊥)
+stays = (
+  record { count = suc; kept = count_moved.0 },
+  λ k. apart is_open Open Absent refl refl (ap (λ (K : ℕ → Kind). K 0) (k.kept.stands empty 0 fresh).kinds),
+)
 
 here : Turn false (fresh_of one) (fresh_of one) [] (Some []) (Some []) (Some [])
 unfolding conversation led_to lines_of_first

@@ -1,5 +1,5 @@
 -- What is told of calls that were played.
-use Rattle.std.proofs.Common.{◌≡◌, ℕ, Bool, true, false, eqb, List, [], ◌∷◌, ◌++◌, get_or, Ok, Err, refl, sym, ◌∙◌}
+use Rattle.std.proofs.Common.{◌≡◌, ℕ, Bool, true, false, eqb, List, [], ◌∷◌, ◌++◌, get_or, Ok, Err, refl}
 use Rattle.std.specs.Fmt.{digits}
 use Rattle.std.specs.Prelude.{codes}
 use Rattle.bench.specs.Calls.{ran_for}
@@ -7,7 +7,7 @@ use Rattle.bench.specs.Law.{Start}
 use Rattle.bench.specs.State.{State}
 use Rattle.benchfile.specs.declared.refusals.Refusal.TheVariants.{NotBenchFile}
 use Rattle.playback.proofs.Alike.{tells}
-use Rattle.playback.specs.Lines.{call_lines, played_head, straight_head, verdict}
+use Rattle.playback.specs.Lines.{call_lines}
 use Rattle.playback.specs.Plays.{Plays, Prints, image_span, bank_span}
 use Rattle.playback.specs.States.{state_text}
 use Rattle.playback.specs.Transcript.{Transcript}
@@ -48,11 +48,10 @@ module _ (s : Start) (image bank : Span) (cs : List Call) where
       replays s s (with_looks cs) _ _ _ _ (fresh_of s) _ _ l (reached s (with_looks cs) _ _ l) refl refl refl refl refl
 
   transcribed : (text : List ℕ) × Transcript s s s image bank cs text
-  transcribed =
-      (
-        whole_text cs given (standing 0 given) (state_text image bank left (fresh_of s)) (state_text image bank alone (fresh_of s)),
-        tells s s s image bank cs given (standing 0 given) left alone (fresh_of s) _ law refl refl,
-      )
+  transcribed = (
+    whole_text cs given (standing 0 given) (state_text image bank left (fresh_of s)) (state_text image bank alone (fresh_of s)),
+    tells s s s image bank cs given (standing 0 given) left alone (fresh_of s) _ law refl refl,
+  )
 
 abbrev is_none : List ℕ → Bool
 is_none [] = true
@@ -73,7 +72,7 @@ pub file_played : ((text : List ℕ) × Plays plain file [] text) × (Plays plai
 unfolding Plays
 file_played = (
   transcribed (start_in plain file) (image_span plain file) (bank_span plain) [],
-  not_nothing (start_in plain file) (image_span plain file) (bank_span plain) []
+  not_nothing (start_in plain file) (image_span plain file) (bank_span plain) [],
 )
 
 pub file_refused : Prints plain (Err NotBenchFile) (Ok []) (codes "file 11\n") × (Prints plain (Err NotBenchFile) (Ok []) [] → ⊥)

@@ -18,7 +18,7 @@ mod texts;
 
 pub use cells::{cell_laws, rest, wrote};
 pub use clocks::{
-    carries_out, clocked, keeps, owes, refines, refuses, retires, rests_at, still_open,
+    carries_out, clocked, keeps, owes, refines, refuses, rests_at, retires, still_open,
 };
 pub use files::{begins_with, decides, holds, judges, verdict, whole_words};
 pub use lanes::{each_lane, placed};
@@ -30,4 +30,6 @@ pub use reading::{
     carries, ends, every, filled, fits, found, mnemonic_named, only_mnemonic, reads, selects,
     within, written,
 };
-pub use texts::{adds, fault_of, line_kept, listed, pc_fits, sent_over, turn, whole_listing};
+pub use texts::{
+    adds, fault_of, line_kept, listed, pc_fits, sent_over, stays_lawful, turn, whole_listing,
+};

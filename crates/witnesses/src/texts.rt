@@ -1,7 +1,7 @@
 ghost use Rattle.std.specs.Prelude.{false, [], ◌∷◌, Some, Ok, Err, codes};
 ghost use Rattle.bench.specs.Calls.{stepped_state};
 ghost use Rattle.benchfile.specs.declared.refusals.Refusal.TheVariants.{NotBenchFile};
-ghost use Rattle.conversation.specs.Conversations.{Turn};
+ghost use Rattle.conversation.specs.Conversations.{StaysLawful, Turn};
 ghost use Rattle.conversation.specs.Files.{SentOver};
 ghost use Rattle.conversation.specs.Replies.{LineKept};
 ghost use Rattle.report.specs.Lines.{summary_of};
@@ -18,6 +18,12 @@ ghost use Rattle.witnesses.specs.Machines.{word};
 #[tactic(auto, using(crate::proofs::Talking::step_line))]
 pub fn line_kept()
     ensures { LineKept (codes "step") (fresh_of one) (stepped_state (fresh_of one)) × (LineKept (codes "look pc") (fresh_of one) (stepped_state (fresh_of one)) → ⊥) }
+{}
+
+/// After a step the law stands, and it does not over another memory.
+#[tactic(auto, using(crate::proofs::Talking::stays))]
+pub fn stays_lawful()
+    ensures { StaysLawful (fresh_of one) (stepped_state (fresh_of one)) × (StaysLawful (fresh_of empty) (fresh_of one) → ⊥) }
 {}
 
 /// With nothing left to read a conversation ends where it is.

@@ -10,8 +10,11 @@ use Rattle.memory.specs.declared.kind.Kind.TheVariants.{Open}
 use Rattle.registers.specs.declared.file.RegisterFile.{RegisterFile}
 use Rattle.setup.specs.Map.{bank_from, bank_length, map_kinds, map_words}
 use Rattle.setup.specs.declared.options.Options.{Options}
-use Rattle.stores.specs.Bank.{bank_kind, bank_word, bank_fits}
-use Rattle.stores.specs.Layout.{kind_in_layout, word_in, fits_in}
+use Rattle.stores.specs.Bank.{bank_kind, bank_word}
+use Rattle.stores.specs.ByteLaws.{byte_laws}
+use Rattle.stores.specs.Cells.{cells_fit}
+use Rattle.stores.specs.Layout.{kind_in_layout, word_in}
+use Rattle.stores.specs.WordLaws.{word_laws}
 
 -- what a file that was read says
 abbrev pub contents_in : BenchFile → Contents
@@ -29,7 +32,7 @@ abbrev pub file_words : Options → Contents → ℕ → ℕ
 file_words o file = map_words o (file.base / 4) (word_in file.image) (bank_word (empty_bank o))
 
 pub file_fits : (o : Options) (file : Contents) (k : ℕ) → file_words o file k < 2 ^ 32
-file_fits o file = joined_fits (bank_from o.ram) _ _ (placed_fits (file.base / 4) _ (fits_in file.image)) (placed_fits (bank_from o.ram) _ (bank_fits (empty_bank o)))
+file_fits o file = joined_fits (bank_from o.ram) _ _ (placed_fits (file.base / 4) _ (cells_fit byte_laws file.image)) (placed_fits (bank_from o.ram) _ (cells_fit word_laws (empty_bank o)))
 
 -- all registers are zero
 abbrev pub cleared : RegisterFile

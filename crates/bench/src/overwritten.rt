@@ -22,6 +22,8 @@ fn overwritten_through<M: ReadMemory>(memory: &M, access: Access) -> Option<Over
 pub(super) fn overwritten<M: ReadMemory>(core: &Core, memory: &M) -> Option<Overwritten>
     ensures { result ≡ overwritten_by (M.ReadMemory.kinds memory.now) (M.ReadMemory.words memory.now) core.now }
 {
+    // Asked before the match: the clock asks the same next, and so it is worked out once for both.
+    let access = core.access();
     match (core.phase, core.decoded()) {
         (Phase::T2, Some(Action::Comp { rd, .. }))
         | (Phase::T2, Some(Action::CompI { rd, .. }))
@@ -33,7 +35,7 @@ pub(super) fn overwritten<M: ReadMemory>(core: &Core, memory: &M) -> Option<Over
             number: rd,
             value: core.registers.get(rd),
         }),
-        (Phase::T2, Some(Action::St { .. })) => overwritten_through(memory, core.access()),
+        (Phase::T2, Some(Action::St { .. })) => overwritten_through(memory, access),
         _ => None,
     }
 }

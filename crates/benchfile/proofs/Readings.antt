@@ -9,7 +9,7 @@ use Rattle.benchfile.specs.declared.refusals.Refusal.TheVariants.{NotBenchFile, 
 use Rattle.benchfile.specs.Format.{Contents, and_then, checked, clear, file_of, fits, half_at, judged, laid_out, marked, provided, word_at}
 use Rattle.benchfile.specs.Header.{bytes_of}
 use Rattle.benchfile.specs.Laws.{Begins, Holds, Judges, mark, mark_and_version}
-use Rattle.benchfile.specs.Laws.Judges.{accepted, unlimited, empty, other_version, unmarked}
+use Rattle.benchfile.specs.Laws.Judges.{accepted, past_the_limit, misshapen, other_version, unmarked}
 use Rattle.benchfile.proofs.Headers.{gets_the_verdict}
 
 -- the first bytes one by one, and the rest
@@ -117,7 +117,7 @@ holds bytes small m v z fit =
 
 by_limit : (bytes : List ℕ) (b : Bool) → leb (word_at bytes 20) 1000000 ≡ b → Holds bytes (said bytes) → Judges bytes (provided b Limit (Ok (said bytes)))
 by_limit bytes true e h = accepted h (grind (arith, nat_tests))
-by_limit bytes false e h = unlimited h (grind (arith, nat_tests))
+by_limit bytes false e h = past_the_limit h (grind (arith, nat_tests))
 
 -- the checks one after another, by what each comes to
 by_fits : (bytes : List ℕ) (b : Bool) → Small bytes → Marks bytes → eqb (half_at bytes 3) 1 ≡ true → clear (laid_out bytes).reserved ≡ true →
@@ -125,13 +125,13 @@ by_fits : (bytes : List ℕ) (b : Bool) → Small bytes → Marks bytes → eqb 
     (provided b Header (provided (leb (word_at bytes 20) 1000000) Limit (Ok (said bytes))) ≡ Err Header → (f : Contents) → Holds bytes f → ⊥) →
     Judges bytes (provided b Header (provided (leb (word_at bytes 20) 1000000) Limit (Ok (said bytes))))
 by_fits bytes true small m v z fit begins nothing = by_limit bytes _ refl (holds bytes small m v z fit)
-by_fits bytes false small m v z fit begins nothing = empty begins (nothing refl)
+by_fits bytes false small m v z fit begins nothing = misshapen begins (nothing refl)
 
 by_zeros : (bytes : List ℕ) (b : Bool) → Small bytes → Marks bytes → eqb (half_at bytes 3) 1 ≡ true → clear (laid_out bytes).reserved ≡ b → Begins mark_and_version bytes →
     (provided b Header (judged (word_at bytes 8) (word_at bytes 12) (word_at bytes 16) (word_at bytes 20) (drop 24 bytes)) ≡ Err Header → (f : Contents) → Holds bytes f → ⊥) →
     Judges bytes (provided b Header (judged (word_at bytes 8) (word_at bytes 12) (word_at bytes 16) (word_at bytes 20) (drop 24 bytes)))
 by_zeros bytes true small m v z begins nothing = by_fits bytes _ small m v z refl begins nothing
-by_zeros bytes false small m v z begins nothing = empty begins (nothing refl)
+by_zeros bytes false small m v z begins nothing = misshapen begins (nothing refl)
 
 by_version : (bytes : List ℕ) (b : Bool) → Small bytes → Marks bytes → eqb (half_at bytes 3) 1 ≡ b →
     (checked (laid_out bytes) ≡ Err Header → (f : Contents) → Holds bytes f → ⊥) →

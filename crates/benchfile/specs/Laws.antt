@@ -28,8 +28,8 @@ pub record Holds (bytes : List ℕ) (f : Contents) : Type 0 where
 -- the reader's answer: the contents that the bytes are, or how far the bytes come
 pub data Judges (bytes : List ℕ) : Result Contents Refusal → Type 0 where
   accepted : {f : Contents} → Holds bytes f → f.limit ≤ 1000000 → Judges bytes (Ok f)
-  unlimited : {f : Contents} → Holds bytes f → 1000000 < f.limit → Judges bytes (Err Limit)
-  empty : Begins mark_and_version bytes → ((f : Contents) → Holds bytes f → ⊥) → Judges bytes (Err Header)
+  past_the_limit : {f : Contents} → Holds bytes f → 1000000 < f.limit → Judges bytes (Err Limit)
+  misshapen : Begins mark_and_version bytes → ((f : Contents) → Holds bytes f → ⊥) → Judges bytes (Err Header)
   other_version : Begins mark bytes → (Begins mark_and_version bytes → ⊥) → Judges bytes (Err Version)
   unmarked : (Begins mark bytes → ⊥) → Judges bytes (Err NotBenchFile)
 

@@ -3,7 +3,7 @@ use Rattle.std.proofs.Common.{◌≡◌, ℕ, ◌≤◌, Bool, true, false, eqb,
 use Rattle.std.specs.Prelude.{replicate}
 use Rattle.benchfile.specs.Format.{Contents, judged}
 use Rattle.benchfile.specs.Header.{header_of}
-use Rattle.benchfile.specs.Laws.{Begins, Decides, GetsTheVerdict, Holds, Judges, ReadsBack, WholeWords, accepted, unlimited, empty, other_version, unmarked, mark}
+use Rattle.benchfile.specs.Laws.{Begins, Decides, GetsTheVerdict, Holds, Judges, ReadsBack, WholeWords, accepted, past_the_limit, misshapen, other_version, unmarked, mark}
 use Rattle.benchfile.specs.Refusals.{number_of}
 use Rattle.benchfile.specs.declared.refusals.Refusal.{Refusal}
 use Rattle.benchfile.specs.declared.refusals.Refusal.TheVariants.{Header, NotBenchFile, Version}
@@ -70,24 +70,24 @@ contents_or g (Err e) = g
 -- what is accepted holds
 holds_if : (bytes : List ℕ) (r : Result Contents Refusal) → Judges bytes r → (f : Contents) → r ≡ Ok f → Holds bytes f
 holds_if bytes r (accepted h l) f e = subst (Holds bytes) (ap (contents_or f) e) h
-holds_if bytes r (unlimited h l) f e = absurd (apart (λ x. eqb (code x) 7) _ _ refl refl e)
-holds_if bytes r (empty b n) f e = absurd (apart (λ x. eqb (code x) 13) _ _ refl refl e)
+holds_if bytes r (past_the_limit h l) f e = absurd (apart (λ x. eqb (code x) 7) _ _ refl refl e)
+holds_if bytes r (misshapen b n) f e = absurd (apart (λ x. eqb (code x) 13) _ _ refl refl e)
 holds_if bytes r (other_version b n) f e = absurd (apart (λ x. eqb (code x) 12) _ _ refl refl e)
 holds_if bytes r (unmarked n) f e = absurd (apart (λ x. eqb (code x) 11) _ _ refl refl e)
 
 -- nothing holds where the rest of the header is blamed
 nothing_holds : (bytes : List ℕ) (r : Result Contents Refusal) → Judges bytes r → r ≡ Err Header → (f : Contents) → Holds bytes f → ⊥
 nothing_holds bytes r (accepted h l) e f g = apart (λ x. eqb (code x) 0) _ _ refl refl e
-nothing_holds bytes r (unlimited h l) e f g = apart (λ x. eqb (code x) 7) _ _ refl refl e
-nothing_holds bytes r (empty b n) e f g = n f g
+nothing_holds bytes r (past_the_limit h l) e f g = apart (λ x. eqb (code x) 7) _ _ refl refl e
+nothing_holds bytes r (misshapen b n) e f g = n f g
 nothing_holds bytes r (other_version b n) e f g = apart (λ x. eqb (code x) 12) _ _ refl refl e
 nothing_holds bytes r (unmarked n) e f g = apart (λ x. eqb (code x) 11) _ _ refl refl e
 
 -- the mark is there where the version is blamed
 marked_there : (bytes : List ℕ) (r : Result Contents Refusal) → Judges bytes r → r ≡ Err Version → Begins mark bytes
 marked_there bytes r (accepted h l) e = absurd (apart (λ x. eqb (code x) 0) _ _ refl refl e)
-marked_there bytes r (unlimited h l) e = absurd (apart (λ x. eqb (code x) 7) _ _ refl refl e)
-marked_there bytes r (empty b n) e = absurd (apart (λ x. eqb (code x) 13) _ _ refl refl e)
+marked_there bytes r (past_the_limit h l) e = absurd (apart (λ x. eqb (code x) 7) _ _ refl refl e)
+marked_there bytes r (misshapen b n) e = absurd (apart (λ x. eqb (code x) 13) _ _ refl refl e)
 marked_there bytes r (other_version b n) e = b
 marked_there bytes r (unmarked n) e = absurd (apart (λ x. eqb (code x) 11) _ _ refl refl e)
 

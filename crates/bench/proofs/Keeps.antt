@@ -1,11 +1,12 @@
 -- Each call keeps the law, whatever calls came before it.
-use Rattle.std.proofs.Common.{◌≡◌, ℕ, ◌+◌, ◌≤◌, Err, Result, arith}
+use Rattle.std.proofs.Common.{◌≡◌, ℕ, ◌+◌, ◌≤◌, Err, Result, ◌∙◌, arith}
 use Rattle.arch1.specs.declared.phase.CoreFault.{CoreFault}
 use Rattle.arch1.specs.declared.phase.Ticked.{Ticked}
 use Rattle.memory.specs.declared.interfaces.ReadMemory.{Ghosts}
 use Rattle.registers.specs.declared.file.RegisterFile.{RegisterFile}
 use Rattle.bench.proofs.Laws.{Lives, new_lives, tick_lives, step_lives, run_lives, back_lives, lives_stood, lives_stands}
-use Rattle.bench.specs.Calls.{new_state, tick_answer, ticked_state, step_answer, stepped_state, run_answer, ran_state, back_answer, back_state}
+use Rattle.bench.proofs.Loops.{few_steps}
+use Rattle.bench.specs.Calls.{new_state, tick_answer, ticked_state, step_answer, stepped_state, run_answer, run_answer_for, ran_for, ran_state, back_answer, back_state}
 use Rattle.bench.specs.Law.{Start, Stands, tick_count, step_count, run_count, back_count, taken_back, Reached, fresh, ticked, did_step, did_run, went_back, Kept, TickKept, StepKept, RunKept, BackKept, BeginsOver, start_over}
 use Rattle.bench.specs.State.{State}
 use Rattle.bench.specs.declared.answers.BackFault.{BackFault}
@@ -52,6 +53,10 @@ step_kept t u r e f = kept (λ n. step_count n r) t u (λ s n h. rw (e, f) (did_
 pub run_kept : (m : ℕ) (t u : State) (r : Result ℕ RunFault) → r ≡ run_answer m t → u ≡ ran_state m t → RunKept r t u
 unfolding RunKept
 run_kept m t u r e f = kept (λ n. run_count n r) t u (λ s n h. rw (e, f) (did_run n m t h))
+
+-- a run of few enough steps
+pub steps_kept : (m : ℕ) (t u : State) (r : Result ℕ RunFault) → m ≤ 1000000 → r ≡ run_answer_for 0 m t → u ≡ ran_for m t → RunKept r t u
+steps_kept m t u r few e f = let same = few_steps m t few in run_kept m t u r (e ∙ same.0) (f ∙ same.1)
 
 pub back_kept : (t u : State) (r : Result ℕ BackFault) → r ≡ back_answer t → u ≡ back_state t → BackKept r t u
 unfolding BackKept

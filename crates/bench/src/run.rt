@@ -1,5 +1,5 @@
 ghost use Rattle.std.specs.Prelude.{◌≡◌};
-ghost use Rattle.bench.specs.Calls.{run_answer, ran_state};
+ghost use Rattle.bench.specs.Calls.{run_answer, run_answer_for, ran_for, ran_state};
 ghost use Rattle.bench.specs.Law.{RunKept};
 ghost use Rattle.bench.specs.State.{state_of};
 
@@ -11,8 +11,20 @@ use memory::WriteMemory;
 const MOST: u32 = 1_000_000;
 
 impl<M: WriteMemory> Bench<M> {
+    // So many steps, however many.
+    fn steps(&mut self, n: u32) -> Result<u32, RunFault>
+        ensures answer { result ≡ run_answer_for 0 n (state_of M.ReadMemory self.old) }
+        ensures state { state_of M.ReadMemory self.new ≡ ran_for n (state_of M.ReadMemory self.old) }
+        ensures rest { M.WriteMemory.rest self.new.memory ≡ M.WriteMemory.rest self.old.memory }
+    {
+        for done in 0..n {
+            self.step().map_err(|fault| RunFault::after(done, fault))?;
+        }
+        Ok(n)
+    }
+
     /// So many steps, fewer only if one is refused: answers how many. Refuses 7 before the first step if there are more than 1,000,000.
-    #[tactic(auto, using(crate::proofs::Keeps::not_run_kept))]
+    #[tactic(auto, using(crate::proofs::Keeps::not_run_kept, crate::proofs::Keeps::steps_kept))]
     pub fn run(&mut self, n: u32) -> Result<u32, RunFault>
         ensures answer { result ≡ run_answer n (state_of M.ReadMemory self.old) }
         ensures state { state_of M.ReadMemory self.new ≡ ran_state n (state_of M.ReadMemory self.old) }
@@ -25,9 +37,6 @@ impl<M: WriteMemory> Bench<M> {
                 stop: Stop::TooMany,
             });
         }
-        for done in 0..n {
-            self.step().map_err(|fault| RunFault::after(done, fault))?;
-        }
-        Ok(n)
+        self.steps(n)
     }
 }

@@ -2,12 +2,8 @@
 
 #![tactic(auto)]
 
-mod lines;
-mod output;
-mod show;
-
 use benchfile::read_input;
-use output::output;
+use clock_table::output;
 use std::io;
 use std::io::Write;
 

@@ -17,32 +17,20 @@ hexadecimal n = digits 16 false n
 abbrev pub after_name : Look → List ℕ
 after_name (look.Register n) = decimal n
 after_name (look.Byte address) = codes " 0x" ++ hexadecimal address
-after_name look.Pc = codes ""
-after_name look.Tr = codes ""
-after_name look.Ir = codes ""
-after_name look.Dr = codes ""
-after_name look.Ar = codes ""
-after_name look.Flg = codes ""
-after_name look.Phase = codes ""
-after_name look.Clocks = codes ""
-after_name look.Retired = codes ""
-after_name look.Journal = codes ""
+after_name _ = codes ""
 
 abbrev pub look_text : Look → List ℕ
 look_text at = name_of at ++ after_name at
 
 -- what follows the word of a call, and of a command
 abbrev pub after_call_word : Call → List ℕ
-after_call_word call.Tick = codes ""
-after_call_word call.Step = codes ""
 after_call_word (call.Run n) = codes " " ++ decimal n
-after_call_word call.Back = codes ""
 after_call_word (call.Look at) = codes " " ++ look_text at
+after_call_word _ = codes ""
 
 abbrev pub after_word : Command → List ℕ
 after_word (command.Call c) = after_call_word c
-after_word command.Show = codes ""
-after_word command.Quit = codes ""
+after_word _ = codes ""
 
 abbrev pub command_text : Command → List ℕ
 command_text c = word_of c ++ after_word c

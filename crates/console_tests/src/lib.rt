@@ -1,4 +1,4 @@
-//! Executed cases of the console: commands and their answers, lines, numbers, arguments.
+//! Executed cases of the console: commands and their answers, lines, numbers, scripts, arguments.
 
 #![tactic(auto)]
 
@@ -12,5 +12,7 @@ mod lines;
 mod numbers;
 #[cfg(test)]
 mod refusals;
+#[cfg(test)]
+mod scripts;
 #[cfg(test)]
 mod talk;

@@ -2,13 +2,10 @@
 
 #![tactic(auto)]
 
-mod output;
-mod words;
-
 use benchfile::read_input;
-use output::output;
 use std::io;
 use std::io::Write;
+use word_listing::output;
 
 // The other program has the same three calls. One function for both would take `output` as a closure, to save them one line.
 fn main(rt: HostRuntime) -> io::Result<()> {

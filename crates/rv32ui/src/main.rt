@@ -2,11 +2,8 @@
 
 #![tactic(auto)]
 
-mod lines;
-mod report;
-
-use report::report;
 use rv32ui_cases::SUITES;
+use rv32ui_report::report;
 use std::io;
 use std::io::Write;
 

@@ -5,8 +5,6 @@
 mod fault;
 mod looks;
 mod reading;
-#[cfg(test)]
-mod tests;
 
 pub use fault::ScriptFault;
 pub use looks::with_looks;

@@ -1,0 +1,6 @@
+//! Executed cases of the report on the published RISC-V tests.
+
+#![tactic(auto)]
+
+#[cfg(test)]
+mod failures;

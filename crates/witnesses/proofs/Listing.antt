@@ -1,7 +1,8 @@
--- Listings of no words, and of one.
-use Rattle.std.proofs.Common.{◌≡◌, ℕ, eqb, List, [], ◌∷◌, ◌++◌, length, get_or, refl, sym, ap, ◌∙◌, subst, arith, append-nil}
+-- Listings of no words, and of one; what is printed for a file.
+use Rattle.std.proofs.Common.{◌≡◌, ℕ, eqb, Ok, Err, List, [], ◌∷◌, ◌++◌, length, get_or, refl, sym, ap, ◌∙◌, subst, arith, append-nil}
 use Rattle.std.specs.Fmt.{digits}
 use Rattle.std.specs.Prelude.{codes, pos}
+use Rattle.benchfile.specs.declared.refusals.Refusal.TheVariants.{NotBenchFile}
 use Rattle.isa.specs.Reading.{Reads}
 use Rattle.report.specs.Lines.{summary_of}
 use Rattle.report.specs.Listing.{Adds, Listed, Lists, nothing, instruction, none}
@@ -10,6 +11,7 @@ use Rattle.witnesses.proofs.Readings.{reads}
 use Rattle.witnesses.specs.Files.{line}
 use Rattle.witnesses.specs.Machines.{word}
 use Rattle.witnesses.specs.Reading.{addi}
+use Rattle.word_listing.specs.Output.{Answers}
 
 abbrev first : List ℕ → ℕ
 first [] = 0
@@ -62,3 +64,7 @@ counts_listed = (
   λ l. apart (λ t. eqb (length t) 0) [] (summary_of 0 0) refl refl (only_counts [] l),
   λ l. apart (λ t. eqb (get_or t 9 0) 49) (summary_of 0 1) (summary_of 0 0) refl refl (only_counts (summary_of 0 1) l),
 )
+
+pub refused_told : Answers (Err NotBenchFile) (codes "file 11\n") × (Answers (Err NotBenchFile) (codes "file 12\n") → ⊥)
+unfolding digits
+refused_told = (refl, λ e. apart (λ t. eqb (get_or t 6 0) 50) (codes "file 12\n") (codes "file 11\n") refl refl e)

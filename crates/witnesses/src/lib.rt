@@ -31,5 +31,6 @@ pub use reading::{
     within, written,
 };
 pub use texts::{
-    adds, fault_of, line_kept, listed, pc_fits, sent_over, stays_lawful, turn, whole_listing,
+    adds, fault_of, file_listed, line_kept, listed, pc_fits, sent_over, stays_lawful, turn,
+    whole_listing,
 };

@@ -13,6 +13,7 @@ ghost use Rattle.tracer.specs.Steps.{PcFits};
 ghost use Rattle.witnesses.specs.Benches.{empty, one};
 ghost use Rattle.witnesses.specs.Files.{at_two_to_32, file, line, plain};
 ghost use Rattle.witnesses.specs.Machines.{word};
+ghost use Rattle.word_listing.specs.Output.{Answers};
 
 /// A line that says a step moves the count by one, and a line that says a look does not.
 #[tactic(auto, using(crate::proofs::Talking::step_line))]
@@ -62,6 +63,13 @@ pub fn adds()
 #[tactic(auto, using(crate::proofs::Listing::counts_listed))]
 pub fn whole_listing()
     ensures { Lists 0 [] (summary_of 0 0) × (Lists 0 [] [] → ⊥) × (Lists 0 [] (summary_of 0 1) → ⊥) }
+{}
+
+/// A file without an image has the line of the counts, and a refused one its number.
+#[tactic(auto, using(crate::proofs::Listing::counts_listed, crate::proofs::Listing::refused_told))]
+pub fn file_listed()
+    ensures file { Answers (Ok file) (summary_of 0 0) × (Answers (Ok file) [] → ⊥) }
+    ensures refused { Answers (Err NotBenchFile) (codes "file 11\n") × (Answers (Err NotBenchFile) (codes "file 12\n") → ⊥) }
 {}
 
 /// PC has 32 bits on a bench, and not in every state.

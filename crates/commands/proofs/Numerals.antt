@@ -8,7 +8,7 @@ use Rattle.std.proofs.lemmas.Bool.Decides.{nat_tests}
 use Rattle.std.proofs.lemmas.List.{take-append-drop}
 use Rattle.std.proofs.lemmas.Slice.Eq.{bytes_eq-Decides}
 use Rattle.commands.specs.Numbers.{number_in, number_of}
-use Rattle.commands.specs.Table.{Numeral, Number, decimal, hexadecimal}
+use Rattle.commands.specs.Table.{Finds, Numeral, Number, decimal, hexadecimal}
 use Rattle.commands.specs.Texts.{begins}
 
 all_digits : (base : ℕ) (text : List ℕ) → AllDigits base text → list_all (λ c. is_digit c base) text ≡ true
@@ -63,3 +63,6 @@ Number-number_of text n found =
     (λ h. let P : List ℕ → Type 0 = λ t. Number t n in subst P (sym (begins-is text (codes "0x") h.0)) (hexadecimal (Numeral-number_in 16 _ n h.1)))
     (λ h. decimal (Numeral-number_in 10 text n h))
     (either _ _ _ n found)
+
+pub number_found : (text : List ℕ) (r : Option ℕ) → r ≡ number_of text → Finds (Number text) r
+number_found text r h = subst (Finds (Number text)) (sym h) (record { found = Number-number_of text; only = number_of-Number text })

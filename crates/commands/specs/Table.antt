@@ -1,5 +1,5 @@
 -- The table of commands: which line says which command. Each word stands after exactly one space.
-use Rattle.std.specs.Prelude.{◌≡◌, ℕ, ◌^◌, ◌<◌, ◌++◌, List, [], codes, min}
+use Rattle.std.specs.Prelude.{◌≡◌, ℕ, ◌^◌, ◌<◌, ◌++◌, List, [], Option, Some, codes, min}
 use Rattle.std.specs.Str.Parse.{IsNumeral, digits_value}
 use Rattle.bench.specs.declared.look.Look.{Look}
 use Rattle.bench.specs.declared.look.Look.TheVariants as looks
@@ -56,3 +56,8 @@ pub record Reads (text : List ℕ) (r : Line) : Type 0 where
   pub tells : Tells text r
   pub none : text ≡ [] → r ≡ lines.Empty
   pub only : (c : Command) → Says text c → r ≡ lines.Command c
+
+-- what was found is what a table says, and nothing was found only where it says nothing
+pub record Finds {A : Type 0} (Table : A → Type 0) (r : Option A) : Type 0 where
+  pub found : (a : A) → r ≡ Some a → Table a
+  pub only : (a : A) → Table a → r ≡ Some a

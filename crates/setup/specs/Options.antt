@@ -1,10 +1,13 @@
--- What arguments say as options.
-use Rattle.std.specs.Prelude.{ℕ, ◌&&◌, List, [], ◌∷◌, Some, None, Option, codes, nat_le, if◌then◌else◌}
+-- What arguments say as options: how they are read, and the table of what they can say.
+use Rattle.std.specs.Prelude.{ℕ, ◌≤◌, ◌&&◌, List, [], ◌∷◌, ◌++◌, Some, None, Option, codes, nat_le, if◌then◌else◌}
 use Rattle.std.specs.Option.{option_map, option_and_then}
 use Rattle.std.specs.Str.{bytes_eq}
 use Rattle.commands.specs.Numbers.{number_of}
+use Rattle.commands.specs.Table.{Number}
 use Rattle.setup.specs.declared.options.Options.{Options}
+use Rattle.setup.specs.declared.options.Ram.{Ram as RamWords}
 use Rattle.setup.specs.declared.options.Setting.{Setting}
+use Rattle.setup.specs.declared.options.WordRange.{WordRange}
 use Rattle.setup.specs.declared.options.Setting.TheVariants.{Shield, Ram}
 
 -- `--shield FROM TO` or `--ram AT WORDS`, of at most 65,536 words, by its two numbers
@@ -48,3 +51,20 @@ pub record Told : Type 0 where
 abbrev pub arguments_of : List (List ℕ) → Option Told
 arguments_of [] = None
 arguments_of (file ∷ options) = option_map (λ o. record { file = file; options = o }) (options_of options)
+
+-- three arguments set a shield, or a bank of at most 65,536 words
+pub data Sets : List (List ℕ) → Setting → Type 0 where
+  shield : {from to : List ℕ} {a b : ℕ} → Number from a → Number to b → Sets (codes "--shield" ∷ from ∷ to ∷ []) (Shield (record { from = a; to = b }))
+  ram : {at words : List ℕ} {a n : ℕ} → Number at a → Number words n → n ≤ 65536 → Sets (codes "--ram" ∷ at ∷ words ∷ []) (Ram (record { at = a; words = n }))
+
+-- arguments ask for no option, for one, or for both in either order
+pub data Asks : List (List ℕ) → Options → Type 0 where
+  neither : Asks [] (record { shield = None; ram = None })
+  shield : {ws : List (List ℕ)} {s : WordRange} → Sets ws (Shield s) → Asks ws (record { shield = Some s; ram = None })
+  ram : {ws : List (List ℕ)} {r : RamWords} → Sets ws (Ram r) → Asks ws (record { shield = None; ram = Some r })
+  shield_first : {ws vs : List (List ℕ)} {s : WordRange} {r : RamWords} → Sets ws (Shield s) → Sets vs (Ram r) → Asks (ws ++ vs) (record { shield = Some s; ram = Some r })
+  ram_first : {ws vs : List (List ℕ)} {s : WordRange} {r : RamWords} → Sets ws (Ram r) → Sets vs (Shield s) → Asks (ws ++ vs) (record { shield = Some s; ram = Some r })
+
+-- arguments name a file and ask for options
+pub data Names : List (List ℕ) → Told → Type 0 where
+  named : {file : List ℕ} {options : List (List ℕ)} {o : Options} → Asks options o → Names (file ∷ options) (record { file = file; options = o })

@@ -9,5 +9,5 @@ mod storage;
 
 pub use lines::{UnreadableLine, UsageLine};
 pub use memory_map::Map;
-pub use options::{Arguments, Options, Ram, WordRange, read_arguments, read_options};
+pub use options::{Arguments, Options, Ram, WordRange, read_arguments};
 pub use storage::Storage;

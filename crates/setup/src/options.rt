@@ -1,5 +1,6 @@
 ghost use Rattle.std.specs.Prelude.{◌≡◌, map};
-ghost use Rattle.setup.specs.Options.{setting_of, alone, together, options_with, options_of, arguments_of};
+ghost use Rattle.commands.specs.Table.{Finds};
+ghost use Rattle.setup.specs.Options.{setting_of, alone, together, options_with, options_of, arguments_of, Names};
 ghost use Rattle.setup.specs.Views.{arguments_view};
 
 use commands::number;
@@ -100,9 +101,8 @@ fn followed(one: Setting, others: &[&str]) -> Option<Options>
     }
 }
 
-/// What arguments say as options: `--shield FROM TO` and `--ram AT WORDS`, in either order, each at most once. None if they are anything
-/// else, or ask for more than 65,536 words.
-pub fn read_options(arguments: &[&str]) -> Option<Options>
+// What arguments say as options.
+fn read_options(arguments: &[&str]) -> Option<Options>
     ensures { result ≡ options_of (map (λ a. a.now) arguments.now) }
 {
     match arguments {
@@ -122,8 +122,9 @@ pub struct Arguments<'a> {
     pub options: Options,
 }
 
-/// What the arguments after the program's name say: `FILE [--shield FROM TO] [--ram AT WORDS]`. None if they say anything else.
-pub fn read_arguments<'a>(arguments: &[&'a str]) -> Option<Arguments<'a>>
+// A file and options. A function of its own: in one with `read_arguments` a mistake would be refused by a search for the law, and not by
+// the value.
+fn read_all<'a>(arguments: &[&'a str]) -> Option<Arguments<'a>>
     ensures { arguments_view result ≡ arguments_of (map (λ a. a.now) arguments.now) }
 {
     let [file, options @ ..] = arguments else {
@@ -131,4 +132,14 @@ pub fn read_arguments<'a>(arguments: &[&'a str]) -> Option<Arguments<'a>>
     };
     let options = read_options(options)?;
     Some(Arguments { file, options })
+}
+
+/// What the arguments after the program's name say: `FILE [--shield FROM TO] [--ram AT WORDS]`, the options in either order, each at most
+/// once. None if they say anything else, or ask for more than 65,536 words.
+#[tactic(auto, using(crate::proofs::Asking::arguments_found))]
+pub fn read_arguments<'a>(arguments: &[&'a str]) -> Option<Arguments<'a>>
+    ensures value { arguments_view result ≡ arguments_of (map (λ a. a.now) arguments.now) }
+    ensures law { Finds (Names (map (λ a. a.now) arguments.now)) (arguments_view result) }
+{
+    read_all(arguments)
 }

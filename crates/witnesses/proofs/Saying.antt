@@ -1,13 +1,14 @@
 -- What texts say.
 use Rattle.std.proofs.Common.{◌≡◌, ℕ, ◌^◌, ◌<◌, Bool, true, false, eqb, List, [], length, Some, None, Option, refl, sym, arith}
 use Rattle.std.specs.Prelude.{codes}
+use Rattle.std.specs.Option.{option_map_or}
 use Rattle.bench.specs.declared.look.Look.{Look}
 use Rattle.bench.specs.declared.look.Look.TheVariants as look
-use Rattle.commands.proofs.Numerals.{number_in-Numeral, Numeral-number_in, number_of-Number, Number-number_of}
+use Rattle.commands.proofs.Numerals.{number_in-Numeral, Numeral-number_in, number_found, number_of-Number, Number-number_of}
 use Rattle.commands.proofs.Table as table
 use Rattle.commands.specs.Numbers.{number_in}
 use Rattle.commands.specs.Reading.{line_of}
-use Rattle.commands.specs.Table.{Names, Number, Numeral, Reads, Says, Tells, decimal}
+use Rattle.commands.specs.Table.{Finds, Names, Number, Numeral, Reads, Says, Tells, decimal}
 use Rattle.commands.specs.Table as rules
 use Rattle.commands.specs.Writing.{IsSized}
 use Rattle.commands.specs.declared.command.Command.{Command}
@@ -16,7 +17,11 @@ use Rattle.commands.specs.declared.command.Line.{Line}
 use Rattle.commands.specs.declared.command.Line.TheVariants as line
 use Rattle.session.specs.declared.call.Call.{Call}
 use Rattle.session.specs.declared.call.Call.TheVariants as call
+use Rattle.setup.proofs.Asking.{arguments_of-Names, Names-arguments_of}
+use Rattle.setup.specs.Options as arguments
+use Rattle.setup.specs.Options.{Told}
 use Rattle.witnesses.proofs.Apart.{apart}
+use Rattle.witnesses.specs.Files.{shielded_to, shielding}
 
 abbrev is_number : ℕ → Option ℕ → Bool
 is_number n None = false
@@ -50,6 +55,27 @@ unfolding number_in
 number = (
   Number-number_of (codes "0x1f") 31 refl,
   λ n. apart (is_number 31) _ _ refl refl (number_of-Number (codes "0x1f") 1 n),
+)
+
+pub found : Finds (Number (codes "0x1f")) (Some 31) × (Finds (Number (codes "0x1f")) None → ⊥) × (Finds (Number (codes "x")) (Some 3) → ⊥)
+unfolding number_in
+found = (
+  number_found (codes "0x1f") (Some 31) refl,
+  λ f. let none : None ≡ Some 31 = f.only 31 number.0 in cc,
+  λ f. apart is_some _ _ refl refl (sym (number_of-Number (codes "x") 3 (f.found 3 refl))),
+)
+
+-- where the shield of what was told ends
+abbrev shield_end : Option Told → ℕ
+shield_end None = 0
+shield_end (Some t) = option_map_or (λ s. s.to) t.options.shield 0
+
+pub named : arguments.Names shielding (shielded_to 2) × (arguments.Names shielding (shielded_to 3) → ⊥) × (arguments.Names [] (shielded_to 2) → ⊥)
+unfolding number_in
+named = (
+  arguments_of-Names shielding (shielded_to 2) refl,
+  λ n. apart (λ r. eqb (shield_end r) 3) _ _ refl refl (sym (Names-arguments_of shielding (shielded_to 3) n)),
+  λ n. let none : None ≡ Some (shielded_to 2) = Names-arguments_of [] (shielded_to 2) n in cc,
 )
 
 -- the number in a line: of a run, or of a register that is looked at

@@ -1,11 +1,12 @@
--- A bench file with no image, a line of a listing, and a state that no bench comes to.
-use Rattle.std.specs.Prelude.{ℕ, List, [], ◌++◌, ◌^◌, None, pos, replicate}
+-- A bench file with no image, arguments, a line of a listing, and a state that no bench comes to.
+use Rattle.std.specs.Prelude.{ℕ, List, [], ◌∷◌, ◌++◌, ◌^◌, Some, None, codes, pos, replicate}
 use Rattle.assembly.specs.Assembly.{text_of}
 use Rattle.bench.specs.Calls.{new_state}
 use Rattle.bench.specs.State.{State}
 use Rattle.benchfile.specs.Format.{Contents}
 use Rattle.playback.specs.declared.states.Span.{Span}
 use Rattle.report.specs.Lines.{line_of}
+use Rattle.setup.specs.Options.{Told}
 use Rattle.setup.specs.declared.options.Options.{Options}
 use Rattle.witnesses.specs.Benches.{no_words}
 use Rattle.witnesses.specs.Machines.{word}
@@ -18,6 +19,13 @@ file = record { start = 0; base = 0; limit = 10; image = [] }
 -- no shield and no bank
 abbrev pub plain : Options
 plain = record { shield = None; ram = None }
+
+-- a file and a shield, and what they say if it ends at this word
+abbrev pub shielding : List (List ℕ)
+shielding = codes "f" ∷ codes "--shield" ∷ codes "1" ∷ codes "2" ∷ []
+
+abbrev pub shielded_to : ℕ → Told
+shielded_to n = record { file = codes "f"; options = record { shield = Some (record { from = 1; to = n }); ram = None } }
 
 -- of the word at address 0
 abbrev pub line : List ℕ

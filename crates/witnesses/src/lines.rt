@@ -1,10 +1,12 @@
-ghost use Rattle.std.specs.Prelude.{◌≡◌, ℕ, ◌^◌, [], codes};
+ghost use Rattle.std.specs.Prelude.{◌≡◌, ℕ, ◌^◌, [], Some, None, codes};
 ghost use Rattle.bench.specs.declared.look.Look.TheVariants as look;
-ghost use Rattle.commands.specs.Table.{Names, Number, Numeral, Reads, Says, Tells};
+ghost use Rattle.commands.specs.Table.{Finds, Names, Number, Numeral, Reads, Says, Tells};
 ghost use Rattle.commands.specs.Writing.{IsSized};
 ghost use Rattle.commands.specs.declared.command.Command.TheVariants as command;
 ghost use Rattle.commands.specs.declared.command.Line.TheVariants as line;
 ghost use Rattle.session.specs.declared.call.Call.TheVariants as call;
+ghost use Rattle.setup.specs.Options as arguments;
+ghost use Rattle.witnesses.specs.Files.{shielded_to, shielding};
 
 use commands::{Line, read_line};
 
@@ -18,6 +20,18 @@ pub fn numerals()
 #[tactic(auto, using(crate::proofs::Saying::number))]
 pub fn numbers()
     ensures { Number (codes "0x1f") 31 × (Number (codes "0x1f") 1 → ⊥) }
+{}
+
+/// What a text writes is found, and nothing is found in letters.
+#[tactic(auto, using(crate::proofs::Saying::found))]
+pub fn finds()
+    ensures { Finds (Number (codes "0x1f")) (Some 31) × (Finds (Number (codes "0x1f")) None → ⊥) × (Finds (Number (codes "x")) (Some 3) → ⊥) }
+{}
+
+/// Arguments name one file and ask for one shield.
+#[tactic(auto, using(crate::proofs::Saying::named))]
+pub fn arguments_named()
+    ensures { arguments.Names shielding (shielded_to 2) × (arguments.Names shielding (shielded_to 3) → ⊥) × (arguments.Names [] (shielded_to 2) → ⊥) }
 {}
 
 /// x7 names one register.

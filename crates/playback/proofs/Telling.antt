@@ -2,7 +2,7 @@
 use Rattle.std.proofs.Common.{◌≡◌, ℕ, suc, ◌-◌, ◌<◌, ◌≤◌, Bool, List, [], ◌∷◌, ◌++◌, length, get_or, take, drop, refl, arith}
 use Rattle.std.proofs.lemmas.List.{take_all}
 use Rattle.playback.proofs.Growing.{grown}
-use Rattle.playback.specs.Lines.{step_line, call_lines, played_head, straight_head, verdict}
+use Rattle.playback_lines.specs.Lines.{step_line, call_lines, played_head, straight_head, verdict}
 use Rattle.playback.specs.Whole.{whole_text}
 use Rattle.std.specs.Str.{bytes_eq}
 use Rattle.session.specs.declared.call.Answer.{Answer}

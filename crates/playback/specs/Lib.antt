@@ -1,4 +1,3 @@
-pub mod Lines
 pub mod States
 pub mod Whole
 pub mod Transcript

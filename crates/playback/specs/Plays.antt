@@ -3,7 +3,7 @@ use Rattle.std.specs.Prelude.{◌≡◌, ℕ, ◌-◌, ◌*◌, ◌%◌, ◌^◌
 use Rattle.benchfile.specs.Format.{Contents}
 use Rattle.benchfile.specs.Refusals.{number_of}
 use Rattle.benchfile.specs.declared.refusals.Refusal.{Refusal}
-use Rattle.playback.specs.Lines.{no_command}
+use Rattle.playback_lines.specs.Lines.{no_command}
 use Rattle.playback.specs.Transcript.{Transcript}
 use Rattle.playback.specs.declared.states.Span.{Span}
 use Rattle.report.specs.Lines.{refused_of}

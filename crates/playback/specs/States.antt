@@ -5,7 +5,7 @@ use Rattle.bench.specs.State.{State}
 use Rattle.bench.specs.declared.look.Look.{Look}
 use Rattle.bench.specs.declared.look.Look.TheVariants as look
 use Rattle.bench.specs.declared.look.LookFault.{LookFault}
-use Rattle.playback.specs.Lines.{call_of}
+use Rattle.playback_lines.specs.Lines.{call_of}
 use Rattle.playback.specs.declared.states.Span.{Span}
 use Rattle.session.specs.declared.call.Answer.TheVariants as answer
 use Rattle.session.specs.declared.call.Call.TheVariants as call

@@ -1,7 +1,7 @@
 -- All that is told of a script that was played.
 use Rattle.std.specs.Prelude.{ℕ, List, ◌++◌}
 use Rattle.std.specs.Str.{bytes_eq}
-use Rattle.playback.specs.Lines.{call_lines, played_head, straight_head, verdict}
+use Rattle.playback_lines.specs.Lines.{call_lines, played_head, straight_head, verdict}
 use Rattle.session.specs.declared.call.Answer.{Answer}
 use Rattle.session.specs.declared.call.Call.{Call}
 

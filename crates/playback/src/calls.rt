@@ -1,7 +1,7 @@
 ghost use Rattle.std.specs.Prelude.{◌≡◌, ◌++◌, IfOk, string_bytes};
-ghost use Rattle.playback.specs.Lines.{call_lines};
+ghost use Rattle.playback_lines.specs.Lines.{call_lines};
 
-use super::lines::{CallLine, StepLine, Watched};
+use playback_lines::{CallLine, StepLine, Watched};
 use session::{Answer, Call};
 use std::alloc::AllocError;
 

@@ -6,12 +6,12 @@ ghost use Rattle.playback.specs.Transcript.{Transcript};
 ghost use Rattle.script.specs.Script.{script};
 ghost use Rattle.setup.specs.Files.{contents_in, cleared};
 
-use super::lines::NoCommandLine;
 use super::playing::play_over;
 use super::states::Span;
 use super::whole::Spans;
 use benchfile::BenchFile;
 use memory::WriteMemory;
+use playback_lines::NoCommandLine;
 use report::RefusedLine;
 use script::{ScriptFault, read_script};
 use session::Call;

@@ -4,14 +4,12 @@
 
 mod calls;
 mod file;
-mod lines;
 mod playing;
 mod states;
 mod whole;
 
 pub use calls::add_calls;
 pub use file::output;
-pub use lines::{CallLine, NoCommandLine, PlayedHead, StepLine, StraightHead, Verdict, Watched};
 pub use playing::play_over;
 pub use states::{Span, add_state};
 pub use whole::{Spans, tell};

@@ -2,9 +2,9 @@ ghost use Rattle.std.specs.Prelude.{◌≡◌, ◌++◌, IfOk, string_bytes};
 ghost use Rattle.bench.specs.State.{state_of};
 ghost use Rattle.playback.specs.States.{look_text, registers_text, changed_text, changed_in, state_text};
 
-use super::lines::CallLine;
 use bench::{Bench, Look};
 use memory::ReadMemory;
+use playback_lines::CallLine;
 use session::{Answer, Call};
 use std::alloc::AllocError;
 

@@ -4,10 +4,10 @@ ghost use Rattle.playback.specs.States.{state_text};
 ghost use Rattle.playback.specs.Whole.{whole_text};
 
 use super::calls::add_calls;
-use super::lines::{PlayedHead, StraightHead, Verdict};
 use super::states::{Span, add_state};
 use bench::Bench;
 use memory::ReadMemory;
+use playback_lines::{PlayedHead, StraightHead, Verdict};
 use session::{Answer, Call};
 use std::alloc::{AllocError, Global};
 

@@ -7,7 +7,7 @@ use Rattle.bench.specs.Law.{Start}
 use Rattle.bench.specs.State.{State}
 use Rattle.benchfile.specs.declared.refusals.Refusal.TheVariants.{NotBenchFile}
 use Rattle.playback.proofs.Alike.{tells}
-use Rattle.playback.specs.Lines.{call_lines}
+use Rattle.playback_lines.specs.Lines.{call_lines}
 use Rattle.playback.specs.Plays.{Plays, Prints, image_span, bank_span}
 use Rattle.playback.specs.States.{state_text}
 use Rattle.playback.specs.Transcript.{Transcript}

@@ -1,5 +1,5 @@
 use Rattle.std.proofs.Common.{◌≡◌, ◌++◌, length, string_bytes}
-use Rattle.playback.specs.Lines.{call_lines}
+use Rattle.playback_lines.specs.Lines.{call_lines}
 use Rattle.playback.proofs.calls.add_calls.Given as goal
 
 -- the text so far and the lines that are left make the whole

@@ -1,5 +1,5 @@
 ghost use Rattle.std.specs.Prelude.{◌≡◌, Some};
-ghost use Rattle.playback.specs.Lines.{seen, watched_of, call_of, step_line, played_head, straight_head, verdict, no_command};
+ghost use Rattle.playback_lines.specs.Lines.{seen, watched_of, call_of, step_line, played_head, straight_head, verdict, no_command};
 
 use answers::AnswerLine;
 use assembly::Hex;

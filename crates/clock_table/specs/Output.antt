@@ -1,4 +1,4 @@
--- What the program prints for what an input says as a bench file.
+-- What `clocks` prints for what an input says as a bench file.
 use Rattle.std.specs.Prelude.{ℕ, ◌/◌, List, replicate, Ok, Err, Result}
 use Rattle.benchfile.specs.declared.refusals.Refusal.{Refusal}
 use Rattle.benchfile.specs.Format.{Contents}

@@ -26,11 +26,11 @@ fn run(heap: Global, file: BenchFile<'_>) -> Result<String, AllocError>
     show(heap, &mut core, &mut memory, 64, file.limit)
 }
 
-/// All that the program prints for an input: the first 64 clocks of a bench file, or the line of its refusal.
+/// All that `clocks` prints for an input: the first 64 clocks of a bench file, or the line of its refusal.
 pub fn output(heap: Global, bytes: &[u8]) -> Result<String, AllocError>
     ensures { IfOk result (λ s. string_bytes s ≡ printed (file_of bytes.now)) }
 {
-    // Each program has these two cases: a function for both would take the first as a closure, and so ask something of its caller.
+    // `word_listing` and `tracer` have these two cases too: a function for both would take the first as a closure, and so ask something of its caller.
     match benchfile::read(bytes) {
         Ok(file) => run(heap, file),
         Err(refusal) => RefusedLine(refusal.number()).to_string(heap),

@@ -7,7 +7,7 @@ use clock_table::output;
 use std::io;
 use std::io::Write;
 
-// The other program has the same three calls. One function for both would take `output` as a closure, to save them one line.
+// `listing`, `trace` and `run` have the same three calls. One function for all would take `output` as a closure, to save each one line.
 fn main(rt: HostRuntime) -> io::Result<()> {
     let bytes = read_input(rt.alloc(), rt.stdin())?;
     let text = output(rt.alloc(), &bytes)?;

@@ -75,7 +75,7 @@ fn play(
     play_on(heap, file, options, calls, memory, twin, fresh)
 }
 
-/// All that the program prints for a bench file, options and a script: the calls with their answers and both states, or the line of the
+/// All that `replay` prints for a bench file, options and a script: the calls with their answers and both states, or the line of the
 /// file's refusal, or else that of the script's.
 pub fn output(
     heap: Global,

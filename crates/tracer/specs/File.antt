@@ -1,4 +1,4 @@
--- What a program prints for what an input says as a bench file.
+-- What `trace` or `run` prints for what an input says as a bench file.
 use Rattle.std.specs.Prelude.{ℕ, ◌/◌, List, replicate, Ok, Err, Result}
 use Rattle.benchfile.specs.declared.refusals.Refusal.{Refusal}
 use Rattle.benchfile.specs.Format.{Contents}

@@ -37,7 +37,7 @@ fn show(heap: Global, file: BenchFile<'_>, part: Part) -> Result<String, AllocEr
     }
 }
 
-/// All that a program prints for an input: so much of the trace of a bench file, or the line of its refusal.
+/// All that `trace` or `run` prints for an input: so much of the trace of a bench file, or the line of its refusal.
 pub fn output(heap: Global, bytes: &[u8], part: Part) -> Result<String, AllocError>
     ensures { IfOk result (λ s. string_bytes s ≡ shown part (file_of bytes.now)) }
 {

@@ -1,4 +1,4 @@
--- What the program prints for what an input says as a bench file.
+-- What `listing` prints for what an input says as a bench file.
 use Rattle.std.specs.Prelude.{◌≡◌, ℕ, ◌/◌, List, map, length, Ok, Err, Result}
 use Rattle.std.specs.List.{range_with_len}
 use Rattle.benchfile.specs.declared.refusals.Refusal.{Refusal}

@@ -6,11 +6,11 @@ use super::words::image_words;
 use report::{RefusedLine, listing};
 use std::alloc::{AllocError, Global};
 
-/// All that the program prints for an input: the listing of a bench file, or the line of its refusal.
+/// All that `listing` prints for an input: the listing of a bench file, or the line of its refusal.
 pub fn output(heap: Global, bytes: &[u8]) -> Result<String, AllocError>
     ensures { IfOk result (λ s. Answers (file_of bytes.now) (string_bytes s)) }
 {
-    // Each program has these two cases: a function for both would take the first as a closure, and so ask something of its caller.
+    // `clock_table` and `tracer` have these two cases too: a function for both would take the first as a closure, and so ask something of its caller.
     match benchfile::read(bytes) {
         Ok(file) => {
             let words = image_words(heap, file)?;

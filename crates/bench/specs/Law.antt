@@ -1,9 +1,13 @@
 -- What stands of a bench after n instructions, counted from the answers of its calls: the law between the bench and RV32I by whole instructions.
-use Rattle.std.specs.Prelude.{◌≡◌, ℕ, suc, ◌+◌, ◌-◌, ◌*◌, ◌%◌, ◌^◌, ◌<◌, ◌≤◌, cond, Some, Ok, Err, Result}
+use Rattle.std.specs.Prelude.{◌≡◌, ℕ, suc, ◌+◌, ◌-◌, ◌*◌, ◌/◌, ◌%◌, ◌^◌, ◌<◌, ◌≤◌, cond, nat_lt, Some, Ok, Err, Result}
+use Rattle.alu.specs.Loads.{loaded_of}
+use Rattle.alu.specs.declared.loads.Load.TheVariants.{ByteUnsigned}
 use Rattle.arch1.specs.declared.phase.CoreFault.{CoreFault}
 use Rattle.arch1.specs.declared.phase.Phase.TheVariants.{T0}
 use Rattle.arch1.specs.declared.phase.Ticked.{Ticked}
-use Rattle.machine.specs.Machine.{Arch, Step, went, cannot, stepped, fetched_word, Run, after, long}
+use Rattle.machine.specs.Machine.{Arch, x, Step, went, cannot, stepped, fetched_word, Run, after, long}
+use Rattle.memory.specs.Meaning.{read_of}
+use Rattle.memory.specs.declared.fault.MemoryFault.{MemoryFault}
 use Rattle.memory.specs.declared.interfaces.ReadMemory.{Ghosts}
 use Rattle.memory.specs.declared.kind.Kind.{Kind}
 use Rattle.registers.specs.declared.file.RegisterFile.{RegisterFile}
@@ -12,6 +16,10 @@ use Rattle.bench.specs.State.{State}
 use Rattle.bench.specs.declared.answers.BackFault.{BackFault}
 use Rattle.bench.specs.declared.answers.RunFault.{RunFault}
 use Rattle.bench.specs.declared.answers.Stepped.{Stepped}
+use Rattle.bench.specs.declared.look.Look.{Look}
+use Rattle.bench.specs.declared.look.Look.TheVariants as look
+use Rattle.bench.specs.declared.look.LookFault.{LookFault}
+use Rattle.bench.specs.declared.look.LookFault.TheVariants.{NoRegister, Memory}
 
 -- what a new bench is made of: the kinds of the words, and PC, registers and words; a word has 32 bits
 pub record Start : Type 0 where
@@ -109,3 +117,22 @@ pub record Begins (s : Start) (t : State) : Type 0 where
 -- a new bench over a memory with this meaning
 unfoldable pub BeginsOver : {M : Type 0} → Ghosts M → M → RegisterFile → ℕ → State → Type 0
 BeginsOver m memory rs p t = Begins (start_over m memory rs p) t
+
+-- the byte that LBU would load from an address, of the word there
+abbrev pub byte_loaded : ℕ → Result ℕ MemoryFault → Result ℕ LookFault
+byte_loaded address (Ok word) = Ok (loaded_of ByteUnsigned word address)
+byte_loaded address (Err f) = Err (Memory f)
+
+-- the answer of a look is that of the machine where n instructions brought it to: a register, a byte, between instructions PC, and the counters;
+-- of the open instruction and of the journal the machine knows nothing
+abbrev pub ShownBy : (ℕ → Kind) → Run → ℕ → State → Look → Result ℕ LookFault → Type 0
+ShownBy K come n t (look.Register k) a = a ≡ cond (nat_lt 31 k) (Err NoRegister) (Ok (x come.arch k))
+ShownBy K come n t (look.Byte address) a = a ≡ byte_loaded address (read_of (address / 4) (K (address / 4)) (come.arch.words (address / 4)))
+ShownBy K come n t look.Pc a = t.core.phase ≡ T0 → a ≡ Ok come.arch.pc
+ShownBy K come n t look.Clocks a = a ≡ Ok ((3 * n + come.longs + open_clocks t) % 2 ^ 64)
+ShownBy K come n t look.Retired a = a ≡ Ok (n % 2 ^ 64)
+ShownBy K come n t _ a = Unit {0}
+
+-- whatever calls came before on a new bench, a look shows what the instructions that stand came to
+unfoldable pub Shows : Look → Result ℕ LookFault → State → Type 0
+Shows at a t = (s : Start) (n : ℕ) → Reached s n t → (come : Run) × (after s.kinds s.arch n ≡ Some come) × ShownBy s.kinds come n t at a

@@ -1,4 +1,5 @@
 ghost use Rattle.std.specs.Prelude.{◌≡◌};
+ghost use Rattle.bench.specs.Law.{Shows};
 ghost use Rattle.bench.specs.Looks.{look_answer, byte_answer, look_number};
 ghost use Rattle.bench.specs.State.{state_of};
 ghost use Rattle.bench.specs.declared.look.LookFault.TheVariants.{Memory};
@@ -71,8 +72,8 @@ impl<M: ReadMemory> Bench<M> {
         Ok(u64::from(field(word, 8 * (address % 4), 8)))
     }
 
-    /// Shows a register, a byte, a field of the core, a counter or the length of the journal. Refuses 8 for a register above 31, and 2 for a byte of an absent word.
-    pub fn look(&self, at: Look) -> Result<u64, LookFault>
+    // What a look shows.
+    fn shown(&self, at: Look) -> Result<u64, LookFault>
         ensures { result ≡ look_answer at (state_of M.ReadMemory self.now) }
     {
         let core = &self.core;
@@ -91,5 +92,14 @@ impl<M: ReadMemory> Bench<M> {
             Look::Retired => self.retired,
             Look::Journal => self.journal.len() as u64,
         })
+    }
+
+    /// Shows a register, a byte, a field of the core, a counter or the length of the journal. Refuses 8 for a register above 31, and 2 for a byte of an absent word.
+    #[tactic(auto, using(crate::proofs::Keeps::looked))]
+    pub fn look(&self, at: Look) -> Result<u64, LookFault>
+        ensures answer { result ≡ look_answer at (state_of M.ReadMemory self.now) }
+        ensures law { Shows at result (state_of M.ReadMemory self.now) }
+    {
+        self.shown(at)
     }
 }

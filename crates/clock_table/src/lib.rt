@@ -6,6 +6,4 @@ mod clocks;
 mod file;
 mod lines;
 
-pub use clocks::show;
 pub use file::output;
-pub use lines::{ClockLine, Counts, FaultLine, Head};

@@ -89,7 +89,7 @@ first_line_through text = rw (take_is text, first_is text, first_is (take (befor
         ap (λ (t : List ℕ). first_by (newline t) t) whole)
         (cases_lt (before text) (length text))
 
-after_through : (text : List ℕ) → drop_through 10 text ≡ after_first_line text
+pub after_through : (text : List ℕ) → drop_through 10 text ≡ after_first_line text
 after_through text =
     ⊎_elim
     (λ (in_text : before text < length text). drop_is text ∙ sym (ap (λ (at : Option ℕ). option_map_or (λ end. drop (end + 1) text) at []) (found text in_text)))

@@ -1,8 +1,8 @@
-ghost use Rattle.std.specs.Prelude.{◌≡◌, IfOk, OnOk, IfSome};
+ghost use Rattle.std.specs.Prelude.{◌≡◌, IfOk, OnOk, IfSome, Some};
 ghost use Rattle.std.specs.Io.KnownBytes.{Appends};
 ghost use Rattle.bench.specs.State.{state_of};
 ghost use Rattle.commands.specs.Lines.{lines};
-ghost use Rattle.conversation.specs.Conversations.{conversation, led_to, StaysLawful, Turn};
+ghost use Rattle.conversation.specs.Conversations.{conversation, led_to, left_of, StaysLawful, Turn};
 
 use super::reply::reply_to;
 use bench::Bench;
@@ -21,6 +21,7 @@ fn turn<M: WriteMemory, R: BufRead, W: Write>(
     output: &mut W,
 ) -> io::Result<bool>
     ensures said { IfOk result (λ more. IfSome (R.Read.remaining input.old) (λ bytes. Turn more (state_of M.ReadMemory bench.old) (state_of M.ReadMemory bench.new) bytes (R.Read.remaining input.new) (W.contents output.old) (W.contents output.new))) }
+    ensures rest { M.WriteMemory.rest bench.new.memory ≡ M.WriteMemory.rest bench.old.memory }
     ensures law { StaysLawful (state_of M.ReadMemory bench.old) (state_of M.ReadMemory bench.new) }
 {
     let mut raw = Vec::new(heap);
@@ -47,6 +48,8 @@ pub fn converse<M: WriteMemory, R: BufRead, W: Write>(
 ) -> io::Result<()>
     ensures sent { OnOk result (IfSome (R.Read.remaining input.old) (λ bytes. Appends (W.contents output.old) (W.contents output.new) (conversation (state_of M.ReadMemory bench.old) (lines bytes)))) }
     ensures led { OnOk result (IfSome (R.Read.remaining input.old) (λ bytes. state_of M.ReadMemory bench.new ≡ led_to (state_of M.ReadMemory bench.old) (lines bytes))) }
+    ensures left { OnOk result (IfSome (R.Read.remaining input.old) (λ bytes. R.Read.remaining input.new ≡ Some (left_of (state_of M.ReadMemory bench.old) bytes))) }
+    ensures rest { M.WriteMemory.rest bench.new.memory ≡ M.WriteMemory.rest bench.old.memory }
     ensures law { StaysLawful (state_of M.ReadMemory bench.old) (state_of M.ReadMemory bench.new) }
 {
     for _ in 0..u64::MAX {

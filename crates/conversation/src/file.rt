@@ -1,7 +1,7 @@
 ghost use Rattle.std.specs.Prelude.{Ok, OnOk};
 ghost use Rattle.benchfile.specs.Format.{file_of};
 ghost use Rattle.benchfile.specs.Views.{file_read};
-ghost use Rattle.conversation.specs.Files.{SentOver};
+ghost use Rattle.conversation.specs.Files.{LeftOver, SentOver};
 
 use super::exchange::converse;
 use benchfile::BenchFile;
@@ -19,7 +19,8 @@ fn open<R: BufRead, W: Write>(
     input: &mut R,
     output: &mut W,
 ) -> io::Result<()>
-    ensures { OnOk result (SentOver (file_read (Ok file.entry)) options (R.Read.remaining input.old) (W.contents output.old) (W.contents output.new)) }
+    ensures sent { OnOk result (SentOver (file_read (Ok file.entry)) options (R.Read.remaining input.old) (W.contents output.old) (W.contents output.new)) }
+    ensures left { OnOk result (LeftOver (file_read (Ok file.entry)) options (R.Read.remaining input.old) (R.Read.remaining input.new)) }
 {
     let mut storage = Storage::new(heap);
     let mut bench = storage.bench(file, options)?;
@@ -34,7 +35,8 @@ pub fn converse_over<R: BufRead, W: Write>(
     input: &mut R,
     output: &mut W,
 ) -> io::Result<()>
-    ensures { OnOk result (SentOver (file_of bytes.now) options (R.Read.remaining input.old) (W.contents output.old) (W.contents output.new)) }
+    ensures sent { OnOk result (SentOver (file_of bytes.now) options (R.Read.remaining input.old) (W.contents output.old) (W.contents output.new)) }
+    ensures left { OnOk result (LeftOver (file_of bytes.now) options (R.Read.remaining input.old) (R.Read.remaining input.new)) }
 {
     match benchfile::read(bytes) {
         Ok(file) => open(heap, file, options, input, output),

@@ -5,13 +5,13 @@ use Rattle.conversation.proofs.exchange.turn.Goals as goal
 pub returns-in_default-clause-said : goal.returns-in_default-clause-said
 returns-in_default-clause-said g c =
     turn_ended (g.R.Read.remaining c.args.input.now) (g.R.Read.remaining c.read_until.new.self) (g.W.Write.contents c.args.output.now)
-    (state_of g.M.ReadMemory c.args.bench.now) c.new-raw.result.items c.read_until.new.buf.items c.new-raw.ensures.items c.in_ok-read_until.ensures.bytes (let a = c.in_default.ensures in rw c.deref.ensures.value at a)
+    (state_of g.M.ReadMemory c.args.bench.now) c.new-raw.result.items c.read_until.new.buf.items c.new-raw.ensures.items c.in_ok-read_until.ensures.bytes c.in_ok-read_until.ensures.rest (let a = c.in_default.ensures in rw c.deref.ensures.value at a)
 
 pub returns-in_default-2-clause-said : goal.returns-in_default-2-clause-said
 returns-in_default-2-clause-said g c =
     turn_quit (g.R.Read.remaining c.args.input.now) (g.R.Read.remaining c.read_until.new.self) (g.W.Write.contents c.args.output.now)
     (state_of g.M.ReadMemory c.args.bench.now) (state_of g.M.ReadMemory c.reply_to.new.bench) c.new-raw.result.items c.read_until.new.buf.items c.in-Some.line.now
-    c.new-raw.ensures.items c.in_ok-read_until.ensures.bytes
+    c.new-raw.ensures.items c.in_ok-read_until.ensures.bytes c.in_ok-read_until.ensures.rest
     (let a = c.in-Some.ensures.0 in rw c.deref.ensures.value at a)
     (let a = c.in-Some.ensures.1 in rw c.deref.ensures.value at a)
     (let none = c.in_default-2.is in let a = c.in_ok-answer.ensures.bytes in rw none at a) c.reply_to.ensures.state

@@ -1,11 +1,11 @@
 -- The turns of a conversation.
-use Rattle.std.proofs.Common.{◌≡◌, ◌∙◌, sym, ap, refl, ℕ, ◌<◌, Bool, true, false, List, [], ◌∷◌, ◌++◌, length, append_assoc, append-nil, Some, None, Option}
+use Rattle.std.proofs.Common.{◌≡◌, ◌∙◌, sym, ap, subst, refl, ℕ, ◌<◌, Bool, true, false, List, [], ◌∷◌, ◌++◌, length, append_assoc, append-nil, Some, None, Option}
 use Rattle.std.specs.Prelude.{IfSome}
 use Rattle.std.specs.Io.BufRead.{take_through, drop_through}
 use Rattle.std.specs.Io.KnownBytes.{Keeps, Appends}
 use Rattle.bench.specs.State.{State}
 use Rattle.commands.specs.Lines.{first_line, after_first_line, lines, lines_of_first}
-use Rattle.conversation.specs.Conversations.{conversation, led_to, followed, led, going_on, lines_taken, behind_lines, left_of, Turn}
+use Rattle.conversation.specs.Conversations.{conversation, led_to, followed, led, going_on, lines_taken, behind_lines, left_of, Partly, here, on, Turn}
 use Rattle.conversation.specs.Replies.{reply, state_after}
 use Rattle.conversation.proofs.Lines.{after_through, lines_read, nothing_read}
 
@@ -60,6 +60,7 @@ ended s bytes raw left before h left_none none =
       says = ap (λ (b : List ℕ). conversation s (lines b)) empty ∙ no_lines_said s;
       leads = ap (λ (b : List ℕ). led_to s (lines b)) empty ∙ no_lines_led s;
       leaves = ap (left_of s) empty ∙ no_lines_left s;
+      part = λ e u p. cc;
     }
 
 pub turn_ended : (given left before : Option (List ℕ)) (s : State) (old raw : List ℕ) → old ≡ [] → IfSome given (λ xs. raw ≡ old ++ take_through 10 xs) →
@@ -94,6 +95,37 @@ left_on s bytes raw line answer read some first told =
     ∙ ap (λ (a : Option (List ℕ)). behind_lines (going_on a (lines_taken (state_after line s) (lines rest))) (after_first_line bytes)) (sym told)
     ∙ ap (behind_lines (going_on answer (lines_taken (state_after line s) (lines rest)))) (sym (after_through bytes))
 
+part_on : (s t u : State) (bytes raw line : List ℕ) → raw ≡ take_through 10 bytes → 0 < length raw → line ≡ first_line raw → t ≡ state_after line s →
+    Partly t (lines (drop_through 10 bytes)) u → Partly s (lines bytes) u
+part_on s t u bytes raw line read some first after p =
+    let rest = drop_through 10 bytes in
+    subst (λ (ls : List (List ℕ)). Partly s ls u) (sym (lines_read bytes raw read some ∙ ap (λ (l : List ℕ). l ∷ lines rest) (sym first)))
+    (on (subst (λ (v : State). Partly v (lines rest) u) after p))
+
+-- a turn that is given up has read nothing, or a line
+pub stopped_before : (given : Option (List ℕ)) (s t : State) → t ≡ s → IfSome given (λ bytes. Partly s (lines bytes) t)
+stopped_before None s t same = tt
+stopped_before (Some bytes) s t same = subst (Partly s (lines bytes)) (sym same) here
+
+pub stopped_after : (given : Option (List ℕ)) (s t : State) (old raw line : List ℕ) → old ≡ [] → IfSome given (λ xs. raw ≡ old ++ take_through 10 xs) → 0 < length raw → line ≡ first_line raw →
+    t ≡ state_after line s → IfSome given (λ bytes. Partly s (lines bytes) t)
+stopped_after None s t old raw line new read some first after = tt
+stopped_after (Some bytes) s t old raw line new read some first after =
+    part_on s t t bytes raw line (read ∙ ap (λ (o : List ℕ). o ++ take_through 10 bytes) new) some first after here
+
+-- some turns, and one that is given up
+pub stopped_later : (given middle before after : Option (List ℕ)) (s t u : State) → IfSome given (λ bytes. Turn true s t bytes middle before after) →
+    IfSome middle (λ rest. Partly t (lines rest) u) → IfSome given (λ bytes. Partly s (lines bytes) u)
+stopped_later None middle before after s t u turns stopped = tt
+stopped_later (Some bytes) None before after s t u turns stopped = absurd (let h = turns.reads in cc)
+stopped_later (Some bytes) (Some rest) before after s t u turns stopped =
+    let same : rest ≡ turns.rest = let h = turns.reads in cc in
+    turns.part refl u (subst (λ (b : List ℕ). Partly t (lines b) u) same stopped)
+
+pub stopped_now : (given middle before after : Option (List ℕ)) (s t : State) → IfSome given (λ bytes. Turn true s t bytes middle before after) → IfSome given (λ bytes. Partly s (lines bytes) t)
+stopped_now None middle before after s t turns = tt
+stopped_now (Some bytes) middle before after s t turns = turns.part refl t here
+
 pub turn_quit : (given left before : Option (List ℕ)) (s t : State) (old raw line : List ℕ) → old ≡ [] → IfSome given (λ xs. raw ≡ old ++ take_through 10 xs) →
     IfSome given (λ xs. left ≡ Some (drop_through 10 xs)) → 0 < length raw → line ≡ first_line raw →
     None ≡ reply line s → t ≡ state_after line s → IfSome given (λ bytes. Turn false s t bytes left before before)
@@ -108,6 +140,7 @@ turn_quit (Some bytes) left before s t old raw line new read drops some first to
       says = said s bytes raw line None all some first told;
       leads = led_on s bytes raw line None all some first told ∙ sym after;
       leaves = left_on s bytes raw line None all some first told ∙ none_behind (drop_through 10 bytes);
+      part = λ e u p. cc;
     }
 
 pub turn_answered : (given left before written after : Option (List ℕ)) (s t : State) (old raw line answer : List ℕ) → old ≡ [] → IfSome given (λ xs. raw ≡ old ++ take_through 10 xs) →
@@ -124,6 +157,7 @@ turn_answered (Some bytes) left before written after s t old raw line answer new
       says = said s bytes raw line (Some answer) all some first told ∙ ap (λ (u : State). answer ++ conversation u (lines (drop_through 10 bytes))) (sym moved);
       leads = led_on s bytes raw line (Some answer) all some first told ∙ ap (λ (u : State). led_to u (lines (drop_through 10 bytes))) (sym moved);
       leaves = left_on s bytes raw line (Some answer) all some first told ∙ ap (λ (u : State). left_of u (drop_through 10 bytes)) (sym moved);
+      part = λ e u p. part_on s t u bytes raw line all some first moved p;
     }
 
 appended : (before middle after : Option (List ℕ)) (a b : List ℕ) → Appends before middle a → Appends middle after b → Appends before after (a ++ b)
@@ -147,9 +181,10 @@ turned more (Some bytes) (Some rest) left before written after s t u one other =
       says = one.says ∙ ap (λ (b : List ℕ). one.sent ++ conversation t (lines b)) (sym same) ∙ ap (λ (x : List ℕ). one.sent ++ x) other.says ∙ sym (append_assoc one.sent other.sent _);
       leads = one.leads ∙ ap (λ (b : List ℕ). led_to t (lines b)) (sym same) ∙ other.leads;
       leaves = one.leaves ∙ ap (left_of t) (sym same) ∙ other.leaves;
+      part = λ e v p. one.part refl v (subst (λ (b : List ℕ). Partly t (lines b) v) same (other.part e v p));
     }
 
 -- none yet
 pub begun : (given before : Option (List ℕ)) (s : State) → IfSome given (λ bytes. Turn true s s bytes given before before)
 begun None before s = tt
-begun (Some bytes) before s = record { rest = bytes; sent = []; reads = refl; wrote = kept before; says = refl; leads = refl; leaves = refl }
+begun (Some bytes) before s = record { rest = bytes; sent = []; reads = refl; wrote = kept before; says = refl; leads = refl; leaves = refl; part = λ e u p. p }

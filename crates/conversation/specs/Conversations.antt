@@ -43,6 +43,11 @@ behind_lines (suc n) text = behind_lines n (after_first_line text)
 abbrev pub left_of : State → List ℕ → List ℕ
 left_of s text = behind_lines (lines_taken s (lines text)) text
 
+-- where the bench is after some of the lines, in order
+pub data Partly : State → List (List ℕ) → State → Type 0 where
+  here : {s : State} {ls : List (List ℕ)} → Partly s ls s
+  on : {s t : State} {l : List ℕ} {ls : List (List ℕ)} → Partly (state_after l s) ls t → Partly s (l ∷ ls) t
+
 -- after one turn or some: of the bytes that were to be read, what was sent, and what is left of the conversation if it goes on
 pub record Turn (more : Bool) (s t : State) (bytes : List ℕ) (left before after : Option (List ℕ)) : Type 0 where
   pub rest : List ℕ
@@ -52,6 +57,7 @@ pub record Turn (more : Bool) (s t : State) (bytes : List ℕ) (left before afte
   pub says : conversation s (lines bytes) ≡ sent ++ (if more then conversation t (lines rest) else [])
   pub leads : led_to s (lines bytes) ≡ (if more then led_to t (lines rest) else t)
   pub leaves : left_of s bytes ≡ (if more then left_of t rest else rest)
+  pub part : more ≡ true → (u : State) → Partly t (lines rest) u → Partly s (lines bytes) u
 
 -- whatever calls came before s, the law stands in t too, some calls later; the count says how these moved the instructions that stand
 pub record StaysLawful (s t : State) : Type 0 where

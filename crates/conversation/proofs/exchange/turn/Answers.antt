@@ -1,5 +1,5 @@
 use Rattle.bench.specs.State.{state_of}
-use Rattle.conversation.proofs.Turns.{turn_ended, turn_quit, turn_answered}
+use Rattle.conversation.proofs.Turns.{turn_ended, turn_quit, turn_answered, stopped_after}
 use Rattle.conversation.proofs.exchange.turn.Goals as goal
 
 pub returns-in_default-clause-said : goal.returns-in_default-clause-said
@@ -26,3 +26,28 @@ returns-clause-said g c =
     (let a = c.in-Some.ensures.1 in rw c.deref.ensures.value at a)
     (let a = c.in_ok-answer.ensures.bytes in rw c.in-Some-2.is at a) c.reply_to.ensures.state
     (let a = c.in_ok-write_all.ensures.bytes in rw c.deref-2.ensures.value at a) c.in_ok-flush.ensures.bytes
+
+pub returns-in_err-answer-clause-stopped : goal.returns-in_err-answer-clause-stopped
+returns-in_err-answer-clause-stopped g c =
+    stopped_after _ _ _ _ _ _ c.new-raw.ensures.items c.in_ok-read_until.ensures.bytes
+    (let a = c.in-Some.ensures.0 in rw c.deref.ensures.value at a) (let a = c.in-Some.ensures.1 in rw c.deref.ensures.value at a) c.reply_to.ensures.state
+
+pub returns-in_default-2-clause-stopped : goal.returns-in_default-2-clause-stopped
+returns-in_default-2-clause-stopped g c =
+    stopped_after _ _ _ _ _ _ c.new-raw.ensures.items c.in_ok-read_until.ensures.bytes
+    (let a = c.in-Some.ensures.0 in rw c.deref.ensures.value at a) (let a = c.in-Some.ensures.1 in rw c.deref.ensures.value at a) c.reply_to.ensures.state
+
+pub returns-in_err-write_all-clause-stopped : goal.returns-in_err-write_all-clause-stopped
+returns-in_err-write_all-clause-stopped g c =
+    stopped_after _ _ _ _ _ _ c.new-raw.ensures.items c.in_ok-read_until.ensures.bytes
+    (let a = c.in-Some.ensures.0 in rw c.deref.ensures.value at a) (let a = c.in-Some.ensures.1 in rw c.deref.ensures.value at a) c.reply_to.ensures.state
+
+pub returns-in_err-flush-clause-stopped : goal.returns-in_err-flush-clause-stopped
+returns-in_err-flush-clause-stopped g c =
+    stopped_after _ _ _ _ _ _ c.new-raw.ensures.items c.in_ok-read_until.ensures.bytes
+    (let a = c.in-Some.ensures.0 in rw c.deref.ensures.value at a) (let a = c.in-Some.ensures.1 in rw c.deref.ensures.value at a) c.reply_to.ensures.state
+
+pub returns-clause-stopped : goal.returns-clause-stopped
+returns-clause-stopped g c =
+    stopped_after _ _ _ _ _ _ c.new-raw.ensures.items c.in_ok-read_until.ensures.bytes
+    (let a = c.in-Some.ensures.0 in rw c.deref.ensures.value at a) (let a = c.in-Some.ensures.1 in rw c.deref.ensures.value at a) c.reply_to.ensures.state

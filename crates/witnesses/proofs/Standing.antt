@@ -1,12 +1,14 @@
--- How many instructions stand.
-use Rattle.std.proofs.Common.{eqb, Ok, Err, refl}
+-- How many instructions stand, and what is shown of them.
+use Rattle.std.proofs.Common.{◌≡◌, ◌∙◌, ℕ, Bool, false, eqb, Some, Option, Ok, Err, Result, refl, sym, ap}
 use Rattle.arch1.specs.declared.phase.Phase.TheVariants.{T0}
-use Rattle.bench.proofs.Keeps.{reached_stands}
+use Rattle.bench.proofs.Keeps.{looked, reached_stands}
 use Rattle.bench.specs.Calls.{step_answer_for, stepped_for, stepped_state}
-use Rattle.bench.specs.Law.{Next, Reached, Stands, fresh, did_step}
+use Rattle.bench.specs.Law.{Next, Reached, Shows, Stands, fresh, did_step}
+use Rattle.bench.specs.declared.look.Look.TheVariants as look
+use Rattle.bench.specs.declared.look.LookFault.{LookFault}
 use Rattle.isa.specs.Decoding.{reading_of}
 use Rattle.machine.specs.Causes.{number_of}
-use Rattle.machine.specs.Machine.{stepped}
+use Rattle.machine.specs.Machine.{Run, stepped, x}
 use Rattle.machine.specs.declared.cause.Cause.TheVariants.{Memory, UnalignedPc}
 use Rattle.memory.specs.Meaning.{refused}
 use Rattle.memory.specs.declared.fault.Cause.TheVariants.{NoWord}
@@ -15,6 +17,14 @@ use Rattle.witnesses.proofs.Apart.{apart}
 use Rattle.witnesses.specs.Benches.{empty, made_in, no_words, one}
 use Rattle.witnesses.specs.Machines.{before}
 use Rattle.witnesses.specs.Memories.{one_open}
+
+abbrev is_zero : Result ℕ LookFault → Bool
+is_zero (Ok n) = eqb n 0
+is_zero (Err f) = false
+
+abbrev is_six : Result ℕ LookFault → Bool
+is_six (Ok n) = eqb n 6
+is_six (Err f) = false
 
 pub next_made : Next one_open before (stepped one_open before) (Ok (made_in 3)) × (Next one_open before (stepped one_open before) (Ok (made_in 4)) → ⊥)
 unfolding reading_of
@@ -45,3 +55,21 @@ none_reached = (fresh, λ r. not_one (reached_stands empty 1 (fresh_of empty) r)
 
 pub one_reached : Reached one 1 (stepped_state (fresh_of one)) × (Reached one 0 (stepped_state (fresh_of one)) → ⊥)
 one_reached = (stepped_once, λ r. not_none (reached_stands one 0 (stepped_state (fresh_of one)) r))
+
+pub counter_shown : Shows look.Retired (Ok 1) (stepped_state (fresh_of one)) × (Shows look.Retired (Ok 0) (stepped_state (fresh_of one)) → ⊥)
+unfolding Shows reading_of step_answer_for stepped_for
+counter_shown = (looked look.Retired (Ok 1) _ refl, λ h. apart is_zero (Ok 0) (Ok 1) refl refl (h one 1 stepped_once).2)
+
+-- what two looks at x1 show of the same run
+same_number : (a b : Run) (o : Option Run) → o ≡ Some a → o ≡ Some b → x a.arch 1 ≡ x b.arch 1
+same_number a b o h k = let same : a ≡ b = cc in ap (λ r. x r.arch 1) same
+
+-- the instruction puts 5 into x1
+pub register_shown : Shows (look.Register 1) (Ok 5) (stepped_state (fresh_of one)) × (Shows (look.Register 1) (Ok 6) (stepped_state (fresh_of one)) → ⊥)
+unfolding Shows reading_of step_answer_for stepped_for
+register_shown =
+    let five = looked (look.Register 1) (Ok 5) (stepped_state (fresh_of one)) refl in (
+      five,
+      λ six. let a = five one 1 stepped_once in let b = six one 1 stepped_once in
+          apart is_six (Ok 6) (Ok 5) refl refl (b.2 ∙ sym (ap (λ n. Ok n) (same_number a.0 b.0 _ a.1 b.1)) ∙ sym a.2),
+    )

@@ -1,15 +1,17 @@
 -- Conversations, scripts and traces.
-use Rattle.std.proofs.Common.{ℕ, suc, ◌<◌, Bool, true, false, eqb, List, [], length, Some, Ok, Err, Result, refl, ap, ◌∙◌, arith}
+use Rattle.std.proofs.Common.{◌≡◌, ℕ, suc, ◌<◌, Bool, true, false, eqb, List, [], ◌∷◌, length, Some, Ok, Err, Result, refl, ap, ◌∙◌, arith}
 use Rattle.std.specs.Fmt.{digits}
 use Rattle.std.specs.Prelude.{codes}
 use Rattle.isa.specs.Decoding.{reading_of}
 use Rattle.bench.specs.Calls.{stepped_for, stepped_state}
 use Rattle.bench.specs.Law.{fresh}
+use Rattle.bench.specs.State.{State}
 use Rattle.benchfile.specs.declared.refusals.Refusal.TheVariants.{NotBenchFile}
 use Rattle.commands.specs.Lines.{lines_of_first}
 use Rattle.conversation.proofs.Kept as kept
-use Rattle.conversation.specs.Conversations.{StaysLawful, Turn, conversation, led_to}
-use Rattle.conversation.specs.Files.{SentOver}
+use Rattle.conversation.specs.Conversations as conversations
+use Rattle.conversation.specs.Conversations.{Partly, StaysLawful, Turn, conversation, led_to, lines_taken, behind_lines}
+use Rattle.conversation.specs.Files.{LeftOver, SentOver}
 use Rattle.conversation.specs.Replies.{LineKept}
 use Rattle.memory.specs.declared.kind.Kind.{Kind}
 use Rattle.memory.specs.declared.kind.Kind.TheVariants.{Absent, Open}
@@ -41,8 +43,8 @@ stays = (
 )
 
 here : Turn false (fresh_of one) (fresh_of one) [] (Some []) (Some []) (Some [])
-unfolding conversation led_to lines_of_first
-here = record { rest = []; sent = []; reads = λ e. refl; wrote = refl; says = refl; leads = refl }
+unfolding conversation led_to lines_taken behind_lines lines_of_first
+here = record { rest = []; sent = []; reads = refl; wrote = refl; says = refl; leads = refl; leaves = refl; part = λ e u p. cc }
 
 elsewhere : Turn false (fresh_of one) (stepped_state (fresh_of one)) [] (Some []) (Some []) (Some []) → ⊥
 unfolding conversation led_to lines_of_first reading_of stepped_for
@@ -54,6 +56,21 @@ more_sent t = apart (λ l. eqb (length l) 1) (codes "a") [] refl refl (t.wrote �
 
 pub ended : Turn false (fresh_of one) (fresh_of one) [] (Some []) (Some []) (Some []) × (Turn false (fresh_of one) (stepped_state (fresh_of one)) [] (Some []) (Some []) (Some []) → ⊥) × (Turn false (fresh_of one) (fresh_of one) [] (Some []) (Some []) (Some (codes "a")) → ⊥)
 ended = (here, elsewhere, more_sent)
+
+-- no line leads anywhere, and a step does
+not_stepped : (t : State) → Partly (fresh_of one) [] t → t.retired ≡ 0
+not_stepped t conversations.here = refl
+
+pub partly : Partly (fresh_of one) (codes "step" ∷ []) (stepped_state (fresh_of one)) × (Partly (fresh_of one) [] (stepped_state (fresh_of one)) → ⊥)
+unfolding reading_of stepped_for
+partly = (conversations.on conversations.here, λ p. apart (λ n. eqb n 1) 1 0 refl refl (not_stepped _ p))
+
+pub left_over : LeftOver (Ok file) plain (Some []) (Some []) × (LeftOver (Ok file) plain (Some []) (Some (codes "a")) → ⊥)
+unfolding lines_taken behind_lines lines_of_first
+left_over = (refl, λ l. let none : Some (codes "a") ≡ Some [] = l in cc)
+
+pub left_unread : LeftOver (Err NotBenchFile) plain (Some (codes "a")) (Some (codes "a")) × (LeftOver (Err NotBenchFile) plain (Some (codes "a")) (Some []) → ⊥)
+left_unread = (refl, λ l. let all : Some [] ≡ Some (codes "a") = l in cc)
 
 pub over_file : SentOver (Ok file) plain (Some []) (Some []) (Some []) × (SentOver (Ok file) plain (Some []) (Some []) (Some (codes "a")) → ⊥)
 unfolding conversation lines_of_first

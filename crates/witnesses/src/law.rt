@@ -1,8 +1,9 @@
 ghost use Rattle.std.specs.Prelude.{◌≡◌, ℕ, suc, true, Ok, Err};
 ghost use Rattle.arch1.specs.declared.phase.Phase.TheVariants.{T0, T1};
 ghost use Rattle.bench.specs.Calls.{new_state, tick_answer, ticked_state, step_answer, stepped_state, run_answer, ran_state, back_answer, back_state};
-ghost use Rattle.bench.specs.Law.{BackKept, BeginsOver, Kept, Next, Reached, RunKept, Stands, StepKept, Stood, TickKept};
+ghost use Rattle.bench.specs.Law.{BackKept, BeginsOver, Kept, Next, Reached, RunKept, Shows, Stands, StepKept, Stood, TickKept};
 ghost use Rattle.bench.specs.State.{State, state_of};
+ghost use Rattle.bench.specs.declared.look.Look.TheVariants as look;
 ghost use Rattle.machine.specs.Machine.{stepped};
 ghost use Rattle.machine.specs.declared.cause.Cause.TheVariants.{Memory, UnalignedPc};
 ghost use Rattle.memory.specs.Meaning.{refused};
@@ -51,6 +52,13 @@ pub fn calls_kept()
     ensures step { StepKept (step_answer (fresh_of empty)) (fresh_of empty) (stepped_state (fresh_of empty)) × (StepKept (Ok (made_in 3)) (fresh_of empty) (stepped_state (fresh_of empty)) → ⊥) }
     ensures run { RunKept (run_answer 1 (fresh_of empty)) (fresh_of empty) (ran_state 1 (fresh_of empty)) × (RunKept (Ok 1) (fresh_of empty) (ran_state 1 (fresh_of empty)) → ⊥) }
     ensures back { BackKept (back_answer (fresh_of empty)) (fresh_of empty) (back_state (fresh_of empty)) × (BackKept (Ok 1) (fresh_of empty) (back_state (fresh_of empty)) → ⊥) }
+{}
+
+/// A look shows what the instructions that stand came to, and nothing else.
+#[tactic(auto, using(crate::proofs::Standing::counter_shown, crate::proofs::Standing::register_shown))]
+pub fn shows()
+    ensures counter { Shows look.Retired (Ok 1) (stepped_state (fresh_of one)) × (Shows look.Retired (Ok 0) (stepped_state (fresh_of one)) → ⊥) }
+    ensures register { Shows (look.Register 1) (Ok 5) (stepped_state (fresh_of one)) × (Shows (look.Register 1) (Ok 6) (stepped_state (fresh_of one)) → ⊥) }
 {}
 
 /// Nothing can be taken back of a new bench.

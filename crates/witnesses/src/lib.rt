@@ -22,7 +22,7 @@ pub use clocks::{
 };
 pub use files::{begins_with, decides, holds, judges, verdict, whole_words};
 pub use lanes::{each_lane, placed};
-pub use law::{begins, calls_kept, kept, next, reached, stands, stood};
+pub use law::{begins, calls_kept, kept, next, reached, shows, stands, stood};
 pub use lines::{arguments_named, finds, names, numbers, numerals, read, says, sized, tells};
 pub use lists::{lawful, never_short, replays};
 pub use played::{plays, prints, transcript};
@@ -31,6 +31,6 @@ pub use reading::{
     within, written,
 };
 pub use texts::{
-    adds, fault_of, file_listed, line_kept, listed, pc_fits, sent_over, stays_lawful, turn,
-    whole_listing,
+    adds, fault_of, file_listed, left_over, line_kept, listed, partly, pc_fits, sent_over,
+    stays_lawful, turn, whole_listing,
 };

@@ -1,8 +1,8 @@
 ghost use Rattle.std.specs.Prelude.{false, [], ◌∷◌, Some, Ok, Err, codes};
 ghost use Rattle.bench.specs.Calls.{stepped_state};
 ghost use Rattle.benchfile.specs.declared.refusals.Refusal.TheVariants.{NotBenchFile};
-ghost use Rattle.conversation.specs.Conversations.{StaysLawful, Turn};
-ghost use Rattle.conversation.specs.Files.{SentOver};
+ghost use Rattle.conversation.specs.Conversations.{Partly, StaysLawful, Turn};
+ghost use Rattle.conversation.specs.Files.{LeftOver, SentOver};
 ghost use Rattle.conversation.specs.Replies.{LineKept};
 ghost use Rattle.report.specs.Lines.{summary_of};
 ghost use Rattle.report.specs.Listing.{Adds, Listed, Lists};
@@ -31,6 +31,19 @@ pub fn stays_lawful()
 #[tactic(auto, using(crate::proofs::Talking::ended))]
 pub fn turn()
     ensures { Turn false (fresh_of one) (fresh_of one) [] (Some []) (Some []) (Some []) × (Turn false (fresh_of one) (stepped_state (fresh_of one)) [] (Some []) (Some []) (Some []) → ⊥) × (Turn false (fresh_of one) (fresh_of one) [] (Some []) (Some []) (Some (codes "a")) → ⊥) }
+{}
+
+/// After a line that says a step the bench has made it, and after no line it has not.
+#[tactic(auto, using(crate::proofs::Talking::partly))]
+pub fn partly()
+    ensures { Partly (fresh_of one) (codes "step" ∷ []) (stepped_state (fresh_of one)) × (Partly (fresh_of one) [] (stepped_state (fresh_of one)) → ⊥) }
+{}
+
+/// A conversation over no bytes leaves none, and for a refused file all are left.
+#[tactic(auto, using(crate::proofs::Talking::left_over, crate::proofs::Talking::left_unread))]
+pub fn left_over()
+    ensures file { LeftOver (Ok file) plain (Some []) (Some []) × (LeftOver (Ok file) plain (Some []) (Some (codes "a")) → ⊥) }
+    ensures refused { LeftOver (Err NotBenchFile) plain (Some (codes "a")) (Some (codes "a")) × (LeftOver (Err NotBenchFile) plain (Some (codes "a")) (Some []) → ⊥) }
 {}
 
 /// Over a file with no script nothing is sent, and for a refused file its line is.

@@ -2,7 +2,7 @@
 use Rattle.std.proofs.Common.{◌≡◌, ℕ, zero, suc, ◌+◌, ◌<◌, ◌≤◌, List, [], ◌∷◌, ◌++◌, length, get_or, take, drop, set, sym, refl, ap, ◌∙◌, arith}
 use Rattle.std.proofs.lemmas.List.{take_more, take_more_set, drop-set-lt, drop-drop}
 use Rattle.bench.proofs.Keeps.{reached_stands, reached_stood}
-use Rattle.bench.specs.Law.{Start, Stands, Reached, fresh, ticked, did_step, did_run, went_back}
+use Rattle.bench.specs.Law.{Start, Stands, Kept, Reached, fresh, ticked, did_step, did_run, went_back}
 use Rattle.bench.specs.State.{State}
 use Rattle.session.specs.Lawful.{Lawful, fresh_of}
 use Rattle.session.specs.Lists.{answered, called, answers, played, counted, standing, taken, NeverShort}
@@ -42,6 +42,11 @@ call_reached s n t call.Step h = did_step n t h
 call_reached s n t (call.Run m) h = did_run n m t h
 call_reached s n t call.Back h = went_back n t h
 call_reached s n t (call.Look at) h = h
+
+pub call_kept : (c : Call) (t u : State) (x : Answer) → x ≡ answered c t → u ≡ called c t → Kept (λ n. counted n x) t u
+call_kept c t u x e f =
+    let on : (s : Start) (n : ℕ) → Reached s n t → Reached s (counted n x) u = λ s n h. rw (e, f) (call_reached s n t c h) in
+    record { reached = on; stands = λ s n h. reached_stands s _ _ (on s n h) }
 
 all_reached : (s : Start) (n : ℕ) (t : State) (cs : List Call) → Reached s n t → Reached s (standing n (answers t cs)) (played t cs)
 all_reached s n t [] h = h

@@ -1,7 +1,7 @@
 ghost use Rattle.std.specs.Prelude.{◌≡◌, min, length, take, drop};
-ghost use Rattle.bench.specs.Law.{start_over, Reached};
+ghost use Rattle.bench.specs.Law.{start_over, Kept, Reached};
 ghost use Rattle.bench.specs.State.{state_of};
-ghost use Rattle.session.specs.Lists.{answered, called, answers, played, standing};
+ghost use Rattle.session.specs.Lists.{answered, called, counted, answers, played, standing};
 ghost use Rattle.session.specs.Lawful.{Lawful};
 
 use super::call::{Answer, Call};
@@ -9,9 +9,9 @@ use bench::Bench;
 use memory::WriteMemory;
 use registers::RegisterFile;
 
-/// Makes one call of a bench.
-// By a match: each case has an answer of its own type.
-pub fn make<M: WriteMemory>(bench: &mut Bench<M>, call: Call) -> Answer
+// One call of a bench. By a match: each case has an answer of its own type. A function of its own: the law is found of any answer, and
+// would not be found of each.
+fn answer_of<M: WriteMemory>(bench: &mut Bench<M>, call: Call) -> Answer
     ensures answer { result ≡ answered call (state_of M.ReadMemory bench.old) }
     ensures state { state_of M.ReadMemory bench.new ≡ called call (state_of M.ReadMemory bench.old) }
     ensures rest { M.WriteMemory.rest bench.new.memory ≡ M.WriteMemory.rest bench.old.memory }
@@ -23,6 +23,17 @@ pub fn make<M: WriteMemory>(bench: &mut Bench<M>, call: Call) -> Answer
         Call::Back => Answer::Back(bench.back()),
         Call::Look(at) => Answer::Looked(bench.look(at)),
     }
+}
+
+/// Makes one call of a bench.
+#[tactic(auto, using(crate::proofs::Prefixes::call_kept))]
+pub fn make<M: WriteMemory>(bench: &mut Bench<M>, call: Call) -> Answer
+    ensures answer { result ≡ answered call (state_of M.ReadMemory bench.old) }
+    ensures state { state_of M.ReadMemory bench.new ≡ called call (state_of M.ReadMemory bench.old) }
+    ensures rest { M.WriteMemory.rest bench.new.memory ≡ M.WriteMemory.rest bench.old.memory }
+    ensures law { Kept (λ n. counted n result) (state_of M.ReadMemory bench.old) (state_of M.ReadMemory bench.new) }
+{
+    answer_of(bench, call)
 }
 
 // Makes calls one after another, as many as there are places for their answers. The caller lends the places: there is no heap here.

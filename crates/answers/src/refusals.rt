@@ -72,8 +72,8 @@ impl fmt::Display for LookRefusal {
         let number = self.0.number();
         match self.0 {
             LookFault::Memory(fault) => {
-                let word = WordGiven(Cause::Memory(fault));
-                write!(f, "refused {number}{word}")
+                let word = fault.word;
+                write!(f, "refused {number} word {word}")
             }
             LookFault::NoRegister => write!(f, "refused {number}"),
         }

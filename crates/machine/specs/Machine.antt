@@ -1,5 +1,5 @@
 -- RV32I by whole instructions: what one step does to PC, the registers and the words of the memory, or that it cannot be
--- carried out and why. It knows no clocks. K gives the kind of each word, which no step changes.
+-- carried out and why. Of clocks it knows only which instructions take one more. K gives the kind of each word, which no step changes.
 use Rattle.std.specs.Prelude.{ℕ, zero, suc, ◌+◌, ◌-◌, ◌/◌, ◌%◌, ◌^◌, Bool, cond, List, Some, None, Ok, Err, Option, Result, ◌==◌}
 use Rattle.isa.specs.declared.mnemonic.Class.{Class}
 use Rattle.isa.specs.declared.mnemonic.Class.TheVariants as class

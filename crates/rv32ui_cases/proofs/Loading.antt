@@ -15,7 +15,7 @@ use Rattle.layers.specs.Shield.{shield_kinds}
 use Rattle.stores.specs.Bank.{bank_kind, bank_word, within}
 use Rattle.stores.specs.Layout.{kind_in_layout, whole, word_in}
 use Rattle.rv32ui_cases.specs.Data.{data_of}
-use Rattle.rv32ui_cases.specs.Memories.{bare_kinds, bare_words, is_open, loaded, lying, lying_first, with_whole}
+use Rattle.rv32ui_cases.specs.Memories.{bare_kinds, bare_words, is_open, loaded, laid, laid_first, with_whole}
 use Rattle.rv32ui_cases.specs.Runs.{run_over, seen_over}
 use Rattle.rv32ui_cases.specs.declared.program.Program.{Program}
 use Rattle.rv32ui_cases.specs.declared.running.Calls.{Calls}
@@ -43,11 +43,11 @@ one_at false k n j w x o same = grind (arith, nat_tests)
 none_at : (c : Kind) (k j x o : ℕ) → o ≡ cond (leb k j && (ltb j (k + 0) && is_open c)) x o
 none_at c k j x o = grind (arith, nat_tests)
 
-pub none_lie : (K : ℕ → Kind) (k : ℕ) (list : List ℕ) (W : ℕ → ℕ) → W ≡ lying_first 0 K k list W
+pub none_lie : (K : ℕ → Kind) (k : ℕ) (list : List ℕ) (W : ℕ → ℕ) → W ≡ laid_first 0 K k list W
 none_lie K k list W = fun_ext (λ j. none_at (K j) k j (get_or list (j - k) 0) (W j))
 
 pub one_more_lies : (K : ℕ → Kind) (W : ℕ → ℕ) (list : List ℕ) (k n at w : ℕ) → at ≡ k + n → n < length list → w ≡ get_or list n 0 →
-    with_whole K at w (lying_first n K k list W) ≡ lying_first (n + 1) K k list W
+    with_whole K at w (laid_first n K k list W) ≡ laid_first (n + 1) K k list W
 one_more_lies K W list k n at w place within item =
     rw place (fun_ext (λ j. one_at (is_open (K j)) k n j w (get_or list (j - k) 0) (W j) (λ e. let d : j - k ≡ n = omega arith in ap (λ (i : ℕ). get_or list i 0) d ∙ sym item)))
 
@@ -61,7 +61,7 @@ open_bare : (j : ℕ) → is_open (bare_kinds j) ≡ ltb j 128
 open_bare j = grind (arith, nat_tests)
 
 bare_at : (words behind : List ℕ) (W : ℕ → ℕ) (j : ℕ) → length words ≡ 64 → length behind ≤ 10 → W j ≡ 0 →
-    lying bare_kinds 64 behind (lying bare_kinds 0 words W) j ≡ cond (ltb j 128) (get_or (words ++ behind) j 0) 0
+    laid bare_kinds 64 behind (laid bare_kinds 0 words W) j ≡ cond (ltb j 128) (get_or (words ++ behind) j 0) 0
 bare_at words behind W j sixty_four few zero_at =
     let all : length (words ++ behind) ≡ 64 + length behind = simp length-append (omega (arith, sixty_four)) in
     let from_0 : j - 0 ≡ j = omega arith in

@@ -19,15 +19,15 @@ abbrev pub with_whole : (ℕ → Kind) → ℕ → ℕ → (ℕ → ℕ) → ℕ
 with_whole kinds k w words j = cond (j == k && is_open (kinds j)) w (words j)
 
 -- and once the first n words of a list are written, the first of them as word k
-abbrev pub lying_first : ℕ → (ℕ → Kind) → ℕ → List ℕ → (ℕ → ℕ) → ℕ → ℕ
-lying_first n kinds k list words j = cond (leb k j && (ltb j (k + n) && is_open (kinds j))) (get_or list (j - k) 0) (words j)
+abbrev pub laid_first : ℕ → (ℕ → Kind) → ℕ → List ℕ → (ℕ → ℕ) → ℕ → ℕ
+laid_first n kinds k list words j = cond (leb k j && (ltb j (k + n) && is_open (kinds j))) (get_or list (j - k) 0) (words j)
 
-abbrev pub lying : (ℕ → Kind) → ℕ → List ℕ → (ℕ → ℕ) → ℕ → ℕ
-lying kinds k list = lying_first (length list) kinds k list
+abbrev pub laid : (ℕ → Kind) → ℕ → List ℕ → (ℕ → ℕ) → ℕ → ℕ
+laid kinds k list = laid_first (length list) kinds k list
 
 -- once a program and its data are written from word 0 on
 abbrev pub loaded : Program → (ℕ → Kind) → (ℕ → ℕ) → ℕ → ℕ
-loaded p kinds words = lying kinds 64 (data_of p.mnemonic) (lying kinds 0 p.words words)
+loaded p kinds words = laid kinds 64 (data_of p.mnemonic) (laid kinds 0 p.words words)
 
 -- 128 words that hold a program, its data behind it, and zeros
 abbrev pub bare_kinds : ℕ → Kind

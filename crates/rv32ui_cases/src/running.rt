@@ -4,7 +4,7 @@ ghost use Rattle.layers.specs.Joined.{joined};
 ghost use Rattle.layers.specs.Placed.{placed_kinds, placed_words};
 ghost use Rattle.layers.specs.Shield.{shield_kinds};
 ghost use Rattle.rv32ui_cases.specs.Data.{data_of};
-ghost use Rattle.rv32ui_cases.specs.Memories.{with_whole, lying, loaded};
+ghost use Rattle.rv32ui_cases.specs.Memories.{with_whole, laid, loaded};
 ghost use Rattle.rv32ui_cases.specs.Runs.{start_over, expected_of, called, after, begun, how_many, number_at, shown_of, run_over, seen_over};
 ghost use Rattle.rv32ui_cases.specs.declared.running.Over.TheVariants.{ByteImage, Stack};
 
@@ -87,7 +87,7 @@ fn put_word<M: WriteMemory>(memory: &mut M, k: u32, word: u32)
 fn fill<M: WriteMemory>(memory: &mut M, k: u32, words: &[u32])
     requires { k + length words.now ≤ 128 }
     ensures kinds { M.ReadMemory.kinds memory.new ≡ M.ReadMemory.kinds memory.old }
-    ensures words { M.ReadMemory.words memory.new ≡ lying (M.ReadMemory.kinds memory.old) k words.now (M.ReadMemory.words memory.old) }
+    ensures words { M.ReadMemory.words memory.new ≡ laid (M.ReadMemory.kinds memory.old) k words.now (M.ReadMemory.words memory.old) }
 {
     let mut at = k;
     for word in words {

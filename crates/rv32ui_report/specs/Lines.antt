@@ -12,7 +12,7 @@ use Rattle.rv32ui_cases.specs.declared.running.Seen.{Seen}
 abbrev pub count_of : List ℕ → ℕ → ℕ → List ℕ
 count_of name passed cases = name ++ (codes " " ++ (decimal passed ++ (codes " of " ++ (decimal cases ++ codes "\n"))))
 
--- a number in lower-case hexadecimal digits, without leading zeros
+-- a number in lower-case hexadecimal digits behind 0x, without leading zeros
 unfoldable pub hexadecimal : ℕ → List ℕ
 hexadecimal n = codes "0x" ++ digits 16 false n
 

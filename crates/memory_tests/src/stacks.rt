@@ -1,5 +1,5 @@
-use memory::{Cause, MemoryFault};
-use stack::{Settings, write_beside, write_read};
+use memory::{Cause, MemoryFault, ReadMemory, WriteMemory};
+use stack::{Settings, write_beside};
 use stores::{ByteImage, WordBank};
 
 /// Two words placed at 4 and joined at 6 to a bank of eight words with a shield over the last: writes word `k` and reads it.
@@ -12,15 +12,9 @@ fn through(k: u32, mask: u8) -> Result<u32, MemoryFault> {
         to: 8,
         at: 6,
     };
-    write_read(
-        settings,
-        ByteImage::new(&mut bytes),
-        WordBank::new(&mut words),
-        k,
-        0x0102_0304,
-        mask,
-        k,
-    )
+    let mut stack = settings.stack(ByteImage::new(&mut bytes), WordBank::new(&mut words));
+    stack.write(k, 0x0102_0304, mask)?;
+    stack.read(k)
 }
 
 #[test]

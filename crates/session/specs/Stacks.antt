@@ -11,7 +11,7 @@ use Rattle.layers.specs.declared.shield.Shield.{Shield}
 use Rattle.memory.specs.Rest.{Rest}
 use Rattle.memory.specs.declared.interfaces.ReadMemory.{Ghosts}
 use Rattle.stack.specs.Stack.{stack_kinds, stack_words}
-use Rattle.stack.specs.declared.owned.Settings.{Settings}
+use Rattle.stack.specs.declared.settings.Settings.{Settings}
 
 -- the words of a stack have 32 bits if those of the stores do
 pub stack_fits : (s : Settings) (left right : ℕ → ℕ) → ((k : ℕ) → left k < 2 ^ 32) → ((k : ℕ) → right k < 2 ^ 32) → (k : ℕ) → stack_words s left right k < 2 ^ 32

@@ -1,15 +1,13 @@
 -- Two stores under a stack: the left one placed, the right one shielded, and both joined.
-use Rattle.std.specs.Prelude.{ℕ, Ok, Err, Result}
+use Rattle.std.specs.Prelude.{ℕ}
 use Rattle.layers.specs.declared.joined.Joined.{Joined}
 use Rattle.layers.specs.declared.placed.Placed.{Placed}
 use Rattle.layers.specs.declared.shield.Shield.{Shield}
 use Rattle.layers.specs.Joined.{joined}
 use Rattle.layers.specs.Placed.{placed_kinds, placed_words}
 use Rattle.layers.specs.Shield.{shield_kinds}
-use Rattle.memory.specs.Meaning.{read_of, write_of, patched}
-use Rattle.memory.specs.declared.fault.MemoryFault.{MemoryFault}
 use Rattle.memory.specs.declared.kind.Kind.{Kind}
-use Rattle.stack.specs.declared.owned.Settings.{Settings}
+use Rattle.stack.specs.declared.settings.Settings.{Settings}
 
 abbrev pub stacked : {L R : Type 0} → Settings → L → R → Joined (Placed L) (Shield R)
 stacked s left right = record { at = s.at; left = record { base = s.base; below = left }; right = record { from = s.from; to = s.to; below = right } }
@@ -19,12 +17,3 @@ stack_kinds s left right = joined s.at (placed_kinds s.base left) (shield_kinds 
 
 abbrev pub stack_words : Settings → (ℕ → ℕ) → (ℕ → ℕ) → ℕ → ℕ
 stack_words s left right = joined s.at (placed_words s.base left) right
-
--- the first refusal, or the second answer
-abbrev pub and_then : {X Y : Type 0} → Result X MemoryFault → Result Y MemoryFault → Result Y MemoryFault
-and_then (Ok _) second = second
-and_then (Err fault) second = Err fault
-
--- a write to word k, and then a read of word j
-abbrev pub written_then_read : (ℕ → Kind) → (ℕ → ℕ) → ℕ → ℕ → ℕ → ℕ → Result ℕ MemoryFault
-written_then_read kinds words k v mask j = and_then (write_of k mask (kinds k)) (read_of j (kinds j) (patched kinds words k v mask j))

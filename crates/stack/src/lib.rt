@@ -1,9 +1,9 @@
-//! Two stores under a stack of layers, written and read through it.
+//! Two stores under a stack of layers, and two that are written through a join.
 
 #![tactic(auto)]
 
 mod lent;
-mod owned;
+mod settings;
 
 pub use lent::write_beside;
-pub use owned::{Settings, write_read};
+pub use settings::Settings;

@@ -7,3 +7,4 @@ mod file;
 mod lines;
 
 pub use file::output;
+pub use lines::{ClockLine, Counts, FaultLine, Head};

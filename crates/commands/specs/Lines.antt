@@ -1,5 +1,6 @@
 -- The lines of a text. A line ends in byte 10 or at the end of the text; one byte 13 directly before that byte 10 belongs to the ending.
-use Rattle.std.specs.Prelude.{ℕ, zero, suc, ◌+◌, ◌-◌, List, [], ◌∷◌, length, take, drop, position, codes, ◌==◌, if◌then◌else◌}
+use Rattle.std.specs.Prelude.{◌≡◌, ℕ, zero, suc, ◌+◌, ◌-◌, Bool, true, false, not, List, [], ◌∷◌, ◌++◌, length, take, drop, position, codes, ◌==◌, if◌then◌else◌}
+use Rattle.std.specs.List.{list_all}
 use Rattle.std.specs.Option.{option_map_or}
 use Rattle.commands.specs.Texts.{ends}
 
@@ -24,3 +25,13 @@ lines_of_first (suc n) (c ∷ cs) = first_line (c ∷ cs) ∷ lines_of_first n (
 -- the lines of a text: it has no more of them than bytes
 abbrev pub lines : List ℕ → List (List ℕ)
 lines text = lines_of_first (length text) text
+
+-- no byte 10 stands in it
+abbrev pub one_line : List ℕ → Bool
+one_line text = list_all (λ byte. not (byte == 10)) text
+
+-- a text is a line with its ending, and what stands behind it; a byte 13 directly before the byte 10 belongs to the ending
+pub data Splits : List ℕ → List ℕ → List ℕ → Type 0 where
+  newline : {line rest : List ℕ} → one_line line ≡ true → ends line (codes "\r") ≡ false → Splits (line ++ (10 ∷ rest)) line rest
+  returned : {line rest : List ℕ} → one_line line ≡ true → Splits (line ++ (13 ∷ 10 ∷ rest)) line rest
+  last : {line : List ℕ} → one_line line ≡ true → Splits line line []

@@ -1,5 +1,5 @@
 -- What texts say.
-use Rattle.std.proofs.Common.{◌≡◌, ℕ, ◌^◌, ◌<◌, Bool, true, false, eqb, List, [], length, Some, None, Option, refl, sym, arith}
+use Rattle.std.proofs.Common.{◌≡◌, ◌∙◌, ℕ, ◌^◌, ◌<◌, Bool, true, false, eqb, List, [], ◌∷◌, ◌++◌, length, get_or, Some, None, Option, refl, sym, subst, arith}
 use Rattle.std.specs.Prelude.{codes}
 use Rattle.std.specs.Option.{option_map_or}
 use Rattle.bench.specs.declared.look.Look.{Look}
@@ -9,7 +9,9 @@ use Rattle.commands.proofs.Table as table
 use Rattle.commands.specs.Numbers.{number_in}
 use Rattle.commands.specs.Reading.{line_of}
 use Rattle.commands.specs.Table.{Finds, Names, Number, Numeral, Reads, Says, Tells, decimal}
+use Rattle.commands.specs.Lines.{Splits, newline, returned, last}
 use Rattle.commands.specs.Table as rules
+use Rattle.commands.specs.Texts.{ends}
 use Rattle.commands.specs.Writing.{IsSized}
 use Rattle.commands.specs.declared.command.Command.{Command}
 use Rattle.commands.specs.declared.command.Command.TheVariants as command
@@ -64,6 +66,15 @@ found = (
   λ f. let none : None ≡ Some 31 = f.only 31 number.0 in cc,
   λ f. apart is_some _ _ refl refl (sym (number_of-Number (codes "x") 3 (f.found 3 refl))),
 )
+
+with_return : (text line rest : List ℕ) → Splits text line rest → text ≡ codes "a\r\nb" → line ≡ codes "a\r" → ⊥
+with_return text line rest (newline one no_return) t e = let ended : true ≡ false = subst (λ l. ends l (codes "\r") ≡ false) e no_return in cc
+with_return text line rest (returned {line = l} {rest = r} one) t e =
+    apart (λ x. eqb (get_or x 2 0) 13) (codes "a\r" ++ (13 ∷ 10 ∷ r)) (codes "a\r\nb") refl refl (subst (λ x. x ++ (13 ∷ 10 ∷ r) ≡ codes "a\r\nb") e t)
+with_return text line rest (last one) t e = apart (λ x. eqb (length x) 4) (codes "a\r\nb") (codes "a\r") refl refl (sym t ∙ e)
+
+pub split : Splits (codes "a\r\nb") (codes "a") (codes "b") × (Splits (codes "a\r\nb") (codes "a\r") (codes "b") → ⊥)
+split = (returned refl, λ s. with_return _ _ _ s refl refl)
 
 -- where the shield of what was told ends
 abbrev shield_end : Option Told → ℕ

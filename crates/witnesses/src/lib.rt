@@ -23,7 +23,9 @@ pub use clocks::{
 pub use files::{begins_with, decides, holds, judges, verdict, whole_words};
 pub use lanes::{each_lane, placed};
 pub use law::{begins, calls_kept, kept, next, reached, shows, stands, stood};
-pub use lines::{arguments_named, finds, names, numbers, numerals, read, says, sized, tells};
+pub use lines::{
+    arguments_named, finds, names, numbers, numerals, read, says, sized, splits, tells,
+};
 pub use lists::{lawful, never_short, replays};
 pub use played::{plays, prints, transcript};
 pub use reading::{

@@ -1,5 +1,6 @@
 ghost use Rattle.std.specs.Prelude.{◌≡◌, ℕ, ◌^◌, [], Some, None, codes};
 ghost use Rattle.bench.specs.declared.look.Look.TheVariants as look;
+ghost use Rattle.commands.specs.Lines.{Splits};
 ghost use Rattle.commands.specs.Table.{Finds, Names, Number, Numeral, Reads, Says, Tells};
 ghost use Rattle.commands.specs.Writing.{IsSized};
 ghost use Rattle.commands.specs.declared.command.Command.TheVariants as command;
@@ -32,6 +33,12 @@ pub fn finds()
 #[tactic(auto, using(crate::proofs::Saying::named))]
 pub fn arguments_named()
     ensures { arguments.Names shielding (shielded_to 2) × (arguments.Names shielding (shielded_to 3) → ⊥) × (arguments.Names [] (shielded_to 2) → ⊥) }
+{}
+
+/// The byte 13 before a byte 10 belongs to the ending, and not to the line.
+#[tactic(auto, using(crate::proofs::Saying::split))]
+pub fn splits()
+    ensures { Splits (codes "a\r\nb") (codes "a") (codes "b") × (Splits (codes "a\r\nb") (codes "a\r") (codes "b") → ⊥) }
 {}
 
 /// x7 names one register.

@@ -4,11 +4,11 @@ use Rattle.script.proofs.reading.add_script.Goals as goal
 
 pub loop-first-preserved : goal.loop-first-preserved
 loop-first-preserved c =
-    let less = less_left c.loop-first.rest.now c.in-Some.after.now c.in-Some.ensures.2 c.in-Some.ensures.0 in
+    let less = less_left c.loop-first.rest.now c.in-Some.after.now c.in-Some.ensures.value.2 c.in-Some.ensures.value.0 in
     (search (rules, more_read), omega (arith, less, c.loop-first.invariant.1))
 
 pub loop-first-smaller : goal.loop-first-smaller
-loop-first-smaller c = less_left c.loop-first.rest.now c.in-Some.after.now c.in-Some.ensures.2 c.in-Some.ensures.0
+loop-first-smaller c = less_left c.loop-first.rest.now c.in-Some.after.now c.in-Some.ensures.value.2 c.in-Some.ensures.value.0
 
 pub returns-in-None-clause-calls : goal.returns-in-None-clause-calls
 returns-in-None-clause-calls c = search (rules, quit_read)

@@ -24,8 +24,8 @@ use Rattle.processor.specs.declared.access.Access.TheVariants as access
 use Rattle.arch1.proofs.Patches.{mask_fits, closed, opened}
 use Rattle.arch1.specs.Clock.{beat_of, answered, settled, outcome_of, tick_answer, ticked_core, ticked_words}
 use Rattle.arch1.specs.Owes.{clocks_of_class, between, within, Owes, idle, fetched, decoded, loading, branching}
-use Rattle.arch1.specs.Refinement.{Keeps}
-use Rattle.arch1.specs.Transfers.{Outcome, refuses, access_in, executes, finishes, fetches, loads, stores}
+use Rattle.arch1.specs.Refinement.{Keeps, NamesPhases}
+use Rattle.arch1.specs.Transfers.{Outcome, goes, retires, refuses, access_in, executes, finishes, fetches, loads, stores}
 use Rattle.arch1.specs.Datapath.{Datapath}
 use Rattle.arch1.specs.declared.phase.CoreFault.{CoreFault}
 use Rattle.arch1.specs.declared.phase.Ticked.{Ticked}
@@ -148,9 +148,21 @@ every_clock K a g c (decoded w d r f e) = rw e (at_t2 K a w d r f e (action_of_w
 every_clock K a g c (loading w v f l rd rs1 imm e y h) = rw (e, y, h) (at_t3_load K a w v f l rd rs1 imm)
 every_clock K a g c (branching w d r cmp rs1 rs2 imm e y) = rw (e, y) (at_t3_branch K a w d r cmp rs1 rs2 imm)
 
+phases_of : (c : Datapath) (o : Outcome) → NamesPhases (answered c o) c (settled c o)
+phases_of c (goes d) = refl
+phases_of c (retires d) = refl
+phases_of c (refuses e) = refl
+
+pub phases_named : (K : ℕ → Kind) (W : ℕ → ℕ) (c : Datapath) → NamesPhases (tick_answer K W c) c (ticked_core K W c)
+phases_named K W c = phases_of c (outcome_of K W c)
+
 over : (K : ℕ → Kind) (W : ℕ → ℕ) (c : Datapath) → Keeps K W c (tick_answer K W c) (ticked_core K W c) (ticked_words K W c)
-over K W c a g e o =
-    subst (λ (V : ℕ → ℕ). Clocked (Owes K) clocks_of_class a (stepped K a) g (beat_of (tick_answer K V c)) (ticked_core K V c) (ticked_words K V c)) e (every_clock K a g c o)
+unfolding Keeps
+over K W c = (
+  λ a g e o.
+      subst (λ (V : ℕ → ℕ). Clocked (Owes K) clocks_of_class a (stepped K a) g (beat_of (tick_answer K V c)) (ticked_core K V c) (ticked_words K V c)) e (every_clock K a g c o),
+  phases_named K W c,
+)
 
 pub clock_keeps : (K : ℕ → Kind) (W : ℕ → ℕ) (c : Datapath) (r : Result Ticked CoreFault) (d : Datapath) (V : ℕ → ℕ) →
     r ≡ tick_answer K W c → d ≡ ticked_core K W c → V ≡ ticked_words K W c → Keeps K W c r d V

@@ -1,5 +1,7 @@
 -- Each call keeps the law, whatever calls came before it.
-use Rattle.std.proofs.Common.{◌≡◌, ℕ, ◌+◌, ◌/◌, ◌%◌, ◌≤◌, cond, nat_lt, Ok, Err, Result, refl, sym, ap, ◌∙◌, subst, arith}
+use Rattle.std.proofs.Common.{◌≡◌, ℕ, ◌/◌, ◌%◌, ◌<◌, ◌≤◌, true, cond, ltb, nat_lt, Ok, Err, Result, refl, sym, ap, ◌∙◌, subst, arith}
+use Rattle.std.proofs.lemmas.Bool.Decides.{nat_tests}
+use Rattle.arch1.proofs.Clocks.{phases_named}
 use Rattle.arch1.specs.declared.phase.CoreFault.{CoreFault}
 use Rattle.arch1.specs.declared.phase.Ticked.{Ticked}
 use Rattle.memory.specs.Meaning.{read_of}
@@ -7,15 +9,16 @@ use Rattle.memory.specs.declared.fault.MemoryFault.{MemoryFault}
 use Rattle.memory.specs.declared.interfaces.ReadMemory.{Ghosts}
 use Rattle.registers.specs.Registers.{value_of}
 use Rattle.registers.specs.declared.file.RegisterFile.{RegisterFile}
-use Rattle.bench.proofs.Laws.{Lives, new_lives, tick_lives, step_lives, run_lives, back_lives, lives_stood, lives_stands}
+use Rattle.bench.proofs.Laws.{Lives, new_lives, tick_lives, step_lives, run_lives, back_lives, lives_stood, lives_stands, tick_comes, step_comes, run_comes, goes_back}
 use Rattle.bench.proofs.Loops.{few_steps}
-use Rattle.bench.specs.Calls.{new_state, tick_answer, ticked_state, step_answer, stepped_state, run_answer, run_answer_for, ran_for, ran_state, back_answer, back_state}
+use Rattle.bench.specs.Calls.{new_state, tick_answer, ticked_core, ticked_by, ticked_state, step_answer, stepped_state, run_answer, run_answer_for, ran_for, ran_state, back_answer, back_state}
 use Rattle.bench.specs.Law.{Start, Stands, tick_count, step_count, run_count, back_count, taken_back, Reached, fresh, ticked, did_step, did_run, went_back, Kept, TickKept, StepKept, RunKept, BackKept, BeginsOver, start_over, byte_loaded, ShownBy, Shows}
 use Rattle.bench.specs.Looks.{lane_of, look_answer}
 use Rattle.bench.specs.State.{State}
 use Rattle.bench.specs.declared.answers.BackFault.{BackFault}
 use Rattle.bench.specs.declared.answers.RunFault.{RunFault}
 use Rattle.bench.specs.declared.answers.Stepped.{Stepped}
+use Rattle.bench.specs.declared.answers.Stop.TheVariants as stop
 use Rattle.bench.specs.declared.look.Look.{Look}
 use Rattle.bench.specs.declared.look.Look.TheVariants as look
 use Rattle.bench.specs.declared.look.LookFault.{LookFault}
@@ -50,30 +53,50 @@ begins_over m memory rs p t e =
     let here : Reached (start_over m memory rs p) 0 t = rw e fresh in
     record { reached = here; stands = reached_stands _ 0 t here }
 
--- a run that was refused before its first step
-pub not_run_kept : (f : RunFault) (t : State) → f.done ≡ 0 → RunKept (Err f) t t
-unfolding RunKept
-not_run_kept f t e = kept (λ n. n + f.done) t t (λ s n h. let same : n + f.done ≡ n = omega arith in rw same h)
+-- a clock leaves the core that it leaves, whatever it answers
+core_ticked : (t : State) (y : Result Ticked CoreFault) → (ticked_by t y).core ≡ ticked_core t
+core_ticked t (Ok x) = refl
+core_ticked t (Err f) = refl
 
 pub tick_kept : (t u : State) (r : Result Ticked CoreFault) → r ≡ tick_answer t → u ≡ ticked_state t → TickKept r t u
 unfolding TickKept
-tick_kept t u r e f = kept (λ n. tick_count n r) t u (λ s n h. rw (e, f) (ticked n t h))
+tick_kept t u r e f = (
+  kept (λ n. tick_count n r) t u (λ s n h. rw (e, f) (ticked n t h)),
+  rw (e, f, core_ticked t (tick_answer t)) (phases_named t.kinds t.words t.core),
+  λ s n h. rw (e, f) (tick_comes s n t (reached_lives s n t h)),
+)
 
 pub step_kept : (t u : State) (r : Result Stepped CoreFault) → r ≡ step_answer t → u ≡ stepped_state t → StepKept r t u
 unfolding StepKept
-step_kept t u r e f = kept (λ n. step_count n r) t u (λ s n h. rw (e, f) (did_step n t h))
+step_kept t u r e f = (
+  kept (λ n. step_count n r) t u (λ s n h. rw (e, f) (did_step n t h)),
+  λ s n h. rw (e, f) (step_comes s n t (reached_lives s n t h)),
+)
 
-pub run_kept : (m : ℕ) (t u : State) (r : Result ℕ RunFault) → r ≡ run_answer m t → u ≡ ran_state m t → RunKept r t u
+pub run_kept : (m : ℕ) (t u : State) (r : Result ℕ RunFault) → r ≡ run_answer m t → u ≡ ran_state m t → RunKept m r t u
 unfolding RunKept
-run_kept m t u r e f = kept (λ n. run_count n r) t u (λ s n h. rw (e, f) (did_run n m t h))
+run_kept m t u r e f = (
+  kept (λ n. run_count n r) t u (λ s n h. rw (e, f) (did_run n m t h)),
+  λ s n h. rw e (run_comes s n t (reached_lives s n t h) m),
+)
+
+-- a run that was refused before its first step
+pub not_run_kept : (m : ℕ) (t : State) (r : Result ℕ RunFault) → 1000000 < m → r ≡ Err (record { done = 0; stop = stop.TooMany }) → RunKept m r t t
+not_run_kept m t r many e =
+    let over : ltb 1000000 m ≡ true = grind (arith, nat_tests, many) in
+    run_kept m t t r (rw over e) (rw over refl)
 
 -- a run of few enough steps
-pub steps_kept : (m : ℕ) (t u : State) (r : Result ℕ RunFault) → m ≤ 1000000 → r ≡ run_answer_for 0 m t → u ≡ ran_for m t → RunKept r t u
+pub steps_kept : (m : ℕ) (t u : State) (r : Result ℕ RunFault) → m ≤ 1000000 → r ≡ run_answer_for 0 m t → u ≡ ran_for m t → RunKept m r t u
 steps_kept m t u r few e f = let same = few_steps m t few in run_kept m t u r (e ∙ same.0) (f ∙ same.1)
 
 pub back_kept : (t u : State) (r : Result ℕ BackFault) → r ≡ back_answer t → u ≡ back_state t → BackKept r t u
 unfolding BackKept
-back_kept t u r e f = (kept (λ n. back_count n r) t u (λ s n h. rw (e, f) (went_back n t h)), λ s n h. rw e (reached_stood s n t h))
+back_kept t u r e f = (
+  kept (λ n. back_count n r) t u (λ s n h. rw (e, f) (went_back n t h)),
+  λ s n h. rw e (reached_stood s n t h),
+  rw e (goes_back t),
+)
 
 -- what a look shows is the machine's, since what it is at is
 shown : (s : Start) (n : ℕ) (t : State) (h : Stands s n t) (at : Look) → ShownBy s.kinds h.come n t at (look_answer at t)

@@ -1,5 +1,6 @@
 -- A step, a run and a way back keep what is sound, and what is sound stands.
-use Rattle.std.proofs.Common.{◌≡◌, ℕ, zero, suc, ◌+◌, ◌-◌, ◌*◌, ◌%◌, ◌^◌, ◌≤◌, Bool, true, false, cond, ltb, List, [], ◌∷◌, Some, Ok, Err, Result, sym, refl, ap, ◌∙◌, subst, arith}
+use Rattle.std.proofs.Common.{◌≡◌, ℕ, zero, suc, ◌+◌, ◌-◌, ◌*◌, ◌%◌, ◌^◌, ◌<◌, ◌≤◌, Bool, true, false, cond, ltb, List, [], ◌∷◌, Some, Ok, Err, Result, sym, refl, ap, ◌∙◌, subst, arith}
+use Rattle.std.proofs.lemmas.Bool.Decides.{nat_tests}
 use Rattle.isa.specs.declared.mnemonic.Class.{Class}
 use Rattle.isa.specs.declared.mnemonic.Class.TheVariants as class
 use Rattle.alu.specs.Comparisons.{compared}
@@ -19,8 +20,9 @@ use Rattle.bench.proofs.Sound.{Past, Sound, sound, sound_new, with_one, TickBy, 
 use Rattle.bench.proofs.Undo.{Fit}
 use Rattle.bench.specs.Calls.{down, open_clocks, new_state, tick_answer, ticked_state, entry, stepped_of, last_answer, step_answer_on, stepped_on, step_answer_for, stepped_for, step_answer, stepped_state}
 use Rattle.bench.specs.Calls.{run_answer_on, ran_on, run_answer_for, ran_for, run_answer, ran_state, closed_state, took_back, took_answer, back_state, back_answer}
-use Rattle.bench.specs.Law.{Start, Stands, Next, tick_count, step_count, run_count, back_count, taken_back}
+use Rattle.bench.specs.Law.{Start, Stands, Next, tick_count, step_count, run_count, back_count, taken_back, Advances, Ticks, Ends, GoesBack}
 use Rattle.bench.specs.State.{State}
+use Rattle.bench.specs.declared.answers.RunFault.{RunFault}
 use Rattle.bench.specs.declared.answers.Stepped.{Stepped}
 use Rattle.bench.specs.declared.answers.Stop.TheVariants as stop
 
@@ -72,27 +74,43 @@ module _ (s : Start) (n : ℕ) (r : Run) where
 abbrev pub Lives : Start → ℕ → State → Type 0
 Lives s n t = (r : Run) × Sound s n r t
 
-module _ (s : Start) (base : ℕ) where
-  run_on : (done k : ℕ) (r : Run) (t : State) (y : Result Stepped CoreFault) → StepOutcome s (base + done) r (stepped_state t) y →
-      ((u : State) (q : Run) → Sound s (base + (done + 1)) q u → Lives s (run_count base (run_answer_for (done + 1) k u)) (ran_for k u)) →
-      Lives s (run_count base (run_answer_on done y (run_answer_for (done + 1) k (stepped_state t)))) (ran_on y (stepped_state t) (ran_for k (stepped_state t)))
-  run_on done k r t (Ok x) law go =
+-- what a run of m steps comes to, in the state u
+abbrev RunOutcome : Start → ℕ → ℕ → State → Result ℕ RunFault → Type 0
+RunOutcome s n m u y = (r : Run) × Sound s (run_count n y) r u × Ends m r.arch (stepped s.kinds r.arch) y
+
+module _ (s : Start) (base m : ℕ) (few : m ≤ 1000000) where
+  run_on : (done k : ℕ) (r : Run) (t : State) (y : Result Stepped CoreFault) → done + suc k ≡ m → StepOutcome s (base + done) r (stepped_state t) y →
+      ((u : State) (q : Run) → Sound s (base + (done + 1)) q u → RunOutcome s base m (ran_for k u) (run_answer_for (done + 1) k u)) →
+      RunOutcome s base m (ran_on y (stepped_state t) (ran_for k (stepped_state t))) (run_answer_on done y (run_answer_for (done + 1) k (stepped_state t)))
+  run_on done k r t (Ok x) all law go =
       let one : suc (base + done) ≡ base + (done + 1) = omega arith in
       go (stepped_state t) (with_one r law.0 law.1) (rw one at law.4)
-  run_on done k r t (Err f) law go = (r, law.2)
+  run_on done k r t (Err f) all law go =
+      let fewer : done < m = omega (arith, all) in
+      (r, law.2, rw law.0 (fewer, law.1, refl))
 
-  run_law_for : (k done : ℕ) (r : Run) (t : State) → Sound s (base + done) r t → Lives s (run_count base (run_answer_for done k t)) (ran_for k t)
+  run_law_for : (k done : ℕ) (r : Run) (t : State) → done + k ≡ m → Sound s (base + done) r t → RunOutcome s base m (ran_for k t) (run_answer_for done k t)
   unfolding run_answer_for ran_for
-  run_law_for zero done r t o = (r, o)
-  run_law_for (suc k) done r t o = run_on done k r t (step_answer t) (step_law s (base + done) r t o) (λ u q. run_law_for k (done + 1) q u)
+  run_law_for zero done r t all o = let every : done ≡ m = omega (arith, all) in (r, o, (every, few))
+  run_law_for (suc k) done r t all o =
+      run_on done k r t (step_answer t) all (step_law s (base + done) r t o) (λ u q. run_law_for k (done + 1) q u (omega (arith, all)))
 
-run_law_by : (s : Start) (n m : ℕ) (r : Run) (t : State) (b : Bool) → Sound s n r t →
-    Lives s (run_count n (cond b (Err (record { done = 0; stop = stop.TooMany })) (run_answer_for 0 m t))) (cond b t (ran_for m t))
-run_law_by s n m r t true o = let same : n + 0 ≡ n = omega arith in (r, rw same o)
-run_law_by s n m r t false o = let same : n + 0 ≡ n = omega arith in run_law_for s n m 0 r t (rw same o)
+run_law_by : (s : Start) (n m : ℕ) (r : Run) (t : State) (b : Bool) → ltb 1000000 m ≡ b → Sound s n r t →
+    RunOutcome s n m (cond b t (ran_for m t)) (cond b (Err (record { done = 0; stop = stop.TooMany })) (run_answer_for 0 m t))
+run_law_by s n m r t true e o =
+    let same : n + 0 ≡ n = omega arith in
+    let many : 1000000 < m = grind (arith, nat_tests, e) in
+    (r, rw same o, (many, refl))
+run_law_by s n m r t false e o =
+    let same : n + 0 ≡ n = omega arith in
+    let few : m ≤ 1000000 = grind (arith, nat_tests, e) in
+    run_law_for s n m few m 0 r t (omega arith) (rw same o)
+
+run_law : (s : Start) (n m : ℕ) (t : State) → Lives s n t → RunOutcome s n m (ran_state m t) (run_answer m t)
+run_law s n m t o = run_law_by s n m o.0 t (ltb 1000000 m) refl o.1
 
 pub run_lives : (s : Start) (n m : ℕ) (t : State) → Lives s n t → Lives s (run_count n (run_answer m t)) (ran_state m t)
-run_lives s n m t o = run_law_by s n m o.0 t (ltb 1000000 m) o.1
+run_lives s n m t o = let out = run_law s n m t o in (out.0, out.1)
 
 -- back
 down_mod : (x y d : ℕ) → x ≡ y + d → d ≤ 4 → down (x % 2 ^ 64) d ≡ y % 2 ^ 64
@@ -219,6 +237,7 @@ stands s n r t (sound c j k q g there owes clk ret past fit) =
       registers = owes_registers s.kinds r.arch g c owes;
       words = refl;
       pc = owes_pc s.kinds r.arch g c owes;
+      owed = subst (λ (h : ℕ). Owes s.kinds r.arch h c) (sym same) owes;
       clocks = clk ∙ ap (λ (h : ℕ). (3 * n + r.longs + h) % 2 ^ 64) (sym same);
       retired = ret;
       next = next_by s n r _ _ (step_law s n r _ (sound c j k q g there owes clk ret past fit));
@@ -230,3 +249,44 @@ come_is s n r t (sound c j k q g there owes clk ret past fit) = refl
 
 pub lives_stands : (s : Start) (n : ℕ) (t : State) → Lives s n t → Stands s n t
 lives_stands s n t o = stands s n o.0 t o.1
+
+-- what a call's answer says of where the machine is
+came : (s : Start) (n : ℕ) (r : Run) (t : State) → Sound s n r t → after s.kinds s.arch n ≡ Some r
+came s n r t (sound c j k q g there owes clk ret past fit) = there
+
+advances : (s : Start) (n : ℕ) (r : Run) (t u : State) (b : Bool) → TickBy s n r t u b → Advances (stepped s.kinds r.arch) t u b
+advances s n r t u true law =
+    let undo = law.3 in
+    let cost : suc (open_clocks t) ≡ 3 + long law.1 = omega (arith, undo.clocks) in
+    rw law.2 (cost, law.5)
+advances s n r t u false law = law.1
+
+ticks : (s : Start) (n : ℕ) (r : Run) (t u : State) (y : Result Ticked CoreFault) → TickOutcome s n r t u y → Ticks r.arch (stepped s.kinds r.arch) y t u
+ticks s n r t u (Ok x) law = advances s n r t u x.retired law
+ticks s n r t u (Err f) law = rw law.0 (law.1, refl, law.3)
+
+left_none : (s : Start) (n : ℕ) (r : Run) (u : State) (y : Result Stepped CoreFault) → StepOutcome s n r u y → open_clocks u ≡ 0
+left_none s n r u (Ok x) law = law.5
+left_none s n r u (Err f) law = law.3
+
+module _ (s : Start) (n : ℕ) (t : State) (o : Lives s n t) where
+  pub tick_comes : (come : Run) × (after s.kinds s.arch n ≡ Some come) × Ticks come.arch (stepped s.kinds come.arch) (tick_answer t) t (ticked_state t)
+  tick_comes = (o.0, came s n o.0 t o.1, ticks s n o.0 t (ticked_state t) (tick_answer t) (tick_law s n o.0 t o.1))
+
+  pub step_comes : (come : Run) × (after s.kinds s.arch n ≡ Some come) × (Next s.kinds come.arch (stepped s.kinds come.arch) (step_answer t) × (open_clocks (stepped_state t) ≡ 0))
+  step_comes =
+      let law = step_law s n o.0 t o.1 in
+      (o.0, came s n o.0 t o.1, (next_by s n o.0 _ _ law, left_none s n o.0 _ _ law))
+
+  pub run_comes : (m : ℕ) →
+      (come : Run) × (after s.kinds s.arch (run_count n (run_answer m t)) ≡ Some come) × Ends m come.arch (stepped s.kinds come.arch) (run_answer m t)
+  run_comes m = let out = run_law s n m t o in (out.0, came s _ out.0 _ out.1, out.2)
+
+-- what a way back answers, by whether an instruction is open and what the journal holds
+goes_back_by : (t : State) (b : Bool) (j : List Entry) → ltb 0 (open_clocks t) ≡ b → t.journal ≡ j → GoesBack (cond b (Ok 0) (took_answer (popped j))) t
+goes_back_by t true j e h = rw e refl
+goes_back_by t false [] e h = let none : open_clocks t ≡ 0 = grind (arith, nat_tests, e) in (none, h)
+goes_back_by t false (x ∷ xs) e h = rw e refl
+
+pub goes_back : (t : State) → GoesBack (back_answer t) t
+goes_back t = goes_back_by t (ltb 0 (open_clocks t)) t.journal refl refl

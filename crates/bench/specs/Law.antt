@@ -1,7 +1,9 @@
 -- What stands of a bench after n instructions, counted from the answers of its calls: the law between the bench and RV32I by whole instructions.
-use Rattle.std.specs.Prelude.{◌≡◌, ℕ, suc, ◌+◌, ◌-◌, ◌*◌, ◌/◌, ◌%◌, ◌^◌, ◌<◌, ◌≤◌, cond, nat_lt, Some, Ok, Err, Result}
+use Rattle.std.specs.Prelude.{◌≡◌, ℕ, suc, ◌+◌, ◌-◌, ◌*◌, ◌/◌, ◌%◌, ◌^◌, ◌<◌, ◌≤◌, Bool, true, false, cond, nat_lt, [], Some, Ok, Err, Result}
 use Rattle.alu.specs.Loads.{loaded_of}
 use Rattle.alu.specs.declared.loads.Load.TheVariants.{ByteUnsigned}
+use Rattle.arch1.specs.Owes.{Owes}
+use Rattle.arch1.specs.Refinement.{NamesPhases}
 use Rattle.arch1.specs.declared.phase.CoreFault.{CoreFault}
 use Rattle.arch1.specs.declared.phase.Phase.TheVariants.{T0}
 use Rattle.arch1.specs.declared.phase.Ticked.{Ticked}
@@ -16,6 +18,8 @@ use Rattle.bench.specs.State.{State}
 use Rattle.bench.specs.declared.answers.BackFault.{BackFault}
 use Rattle.bench.specs.declared.answers.RunFault.{RunFault}
 use Rattle.bench.specs.declared.answers.Stepped.{Stepped}
+use Rattle.bench.specs.declared.answers.Stop.{Stop}
+use Rattle.bench.specs.declared.answers.Stop.TheVariants as stop
 use Rattle.bench.specs.declared.look.Look.{Look}
 use Rattle.bench.specs.declared.look.Look.TheVariants as look
 use Rattle.bench.specs.declared.look.LookFault.{LookFault}
@@ -47,11 +51,13 @@ pub record Stands (s : Start) (n : ℕ) (t : State) : Type 0 where
   -- where the machine comes to in n steps, each carried out
   pub come : Run
   pub there : after s.kinds s.arch n ≡ Some come
-  -- registers and all bytes are the machine's, and between instructions PC is too
+  -- registers and all bytes are the machine's, and between instructions PC is too; of the open instruction the core has
+  -- what the machine reads for it
   pub kinds : t.kinds ≡ s.kinds
   pub registers : t.core.registers ≡ come.arch.registers
   pub words : t.words ≡ come.arch.words
   pub pc : t.core.phase ≡ T0 → t.core.pc ≡ come.arch.pc
+  pub owed : Owes s.kinds come.arch (open_clocks t) t.core
   -- three clocks for each, one more for each load and branch among them, and those of the open instruction
   pub clocks : t.clocks ≡ (3 * n + come.longs + open_clocks t) % 2 ^ 64
   pub retired : t.retired ≡ n % 2 ^ 64
@@ -96,18 +102,53 @@ pub record Kept (count : ℕ → ℕ) (t u : State) : Type 0 where
 abbrev pub Stood : ℕ → State → Type 0
 Stood k t = (s : Start) (n : ℕ) → Reached s n t → k ≤ n
 
+-- whatever calls came before on a new bench, this holds of where the instructions that stand bring the machine, their count moved so
+abbrev pub Brings : (ℕ → ℕ) → ((ℕ → Kind) → ℕ → Run → Type 0) → State → Type 0
+Brings count P t = (s : Start) (n : ℕ) → Reached s n t → (come : Run) × (after s.kinds s.arch (count n) ≡ Some come) × P s.kinds (count n) come
+
+-- a clock of the instruction whose step is this: it leaves the instruction open, one clock further,
+-- or it is the last of its clocks and the step is made
+abbrev pub Advances : Step → State → State → Bool → Type 0
+Advances st t u false = open_clocks u ≡ suc (open_clocks t)
+Advances (went b k) t u true = (suc (open_clocks t) ≡ 3 + long k) × (open_clocks u ≡ 0)
+Advances (cannot c) t u true = ⊥
+
+-- a clock on the instruction at a: it is refused only if the step cannot be carried out, for the first cause, and then none is open
+abbrev pub Ticks : Arch → Step → Result Ticked CoreFault → State → State → Type 0
+Ticks a st (Ok x) t u = Advances st t u x.retired
+Ticks a (went b k) (Err f) t u = ⊥
+Ticks a (cannot c) (Err f) t u = (f.address ≡ a.pc) × (f.cause ≡ c) × (open_clocks u ≡ 0)
+
+-- a run of m steps that stopped where the next instruction is the one at a: a step was refused exactly where it cannot be carried out,
+-- or there are too many
+abbrev pub Stops : ℕ → Arch → Step → ℕ → Stop → Type 0
+Stops m a st done stop.TooMany = (1000000 < m) × (done ≡ 0)
+Stops m a (went b k) done (stop.Core f) = ⊥
+Stops m a (cannot c) done (stop.Core f) = (done < m) × (f.address ≡ a.pc) × (f.cause ≡ c)
+
+abbrev pub Ends : ℕ → Arch → Step → Result ℕ RunFault → Type 0
+Ends m a st (Ok k) = (k ≡ m) × (m ≤ 1000000)
+Ends m a st (Err f) = Stops m a st f.done f.stop
+
+-- a way back takes an open instruction, and else the newest one that stands; it declines only if the journal has none
+abbrev pub GoesBack : Result ℕ BackFault → State → Type 0
+GoesBack (Ok k) t = k ≡ cond (nat_lt 0 (open_clocks t)) 0 1
+GoesBack (Err f) t = (open_clocks t ≡ 0) × (t.journal ≡ [])
+
 -- by the answer of each call
 unfoldable pub TickKept : Result Ticked CoreFault → State → State → Type 0
-TickKept r t u = Kept (λ n. tick_count n r) t u
+TickKept r t u =
+    Kept (λ n. tick_count n r) t u × NamesPhases r t.core u.core × Brings (λ n. n) (λ K n come. Ticks come.arch (stepped K come.arch) r t u) t
 
 unfoldable pub StepKept : Result Stepped CoreFault → State → State → Type 0
-StepKept r t u = Kept (λ n. step_count n r) t u
+StepKept r t u =
+    Kept (λ n. step_count n r) t u × Brings (λ n. n) (λ K n come. Next K come.arch (stepped K come.arch) r × (open_clocks u ≡ 0)) t
 
-unfoldable pub RunKept : Result ℕ RunFault → State → State → Type 0
-RunKept r t u = Kept (λ n. run_count n r) t u
+unfoldable pub RunKept : ℕ → Result ℕ RunFault → State → State → Type 0
+RunKept m r t u = Kept (λ n. run_count n r) t u × Brings (λ n. run_count n r) (λ K n come. Ends m come.arch (stepped K come.arch) r) t
 
 unfoldable pub BackKept : Result ℕ BackFault → State → State → Type 0
-BackKept r t u = Kept (λ n. back_count n r) t u × Stood (taken_back r) t
+BackKept r t u = Kept (λ n. back_count n r) t u × Stood (taken_back r) t × GoesBack r t
 
 -- a new bench of s
 pub record Begins (s : Start) (t : State) : Type 0 where
@@ -135,4 +176,4 @@ ShownBy K come n t _ a = Unit {0}
 
 -- whatever calls came before on a new bench, a look shows what the instructions that stand came to
 unfoldable pub Shows : Look → Result ℕ LookFault → State → Type 0
-Shows at a t = (s : Start) (n : ℕ) → Reached s n t → (come : Run) × (after s.kinds s.arch n ≡ Some come) × ShownBy s.kinds come n t at a
+Shows at a t = Brings (λ n. n) (λ K n come. ShownBy K come n t at a) t

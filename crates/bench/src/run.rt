@@ -29,7 +29,7 @@ impl<M: WriteMemory> Bench<M> {
         ensures answer { result ≡ run_answer n (state_of M.ReadMemory self.old) }
         ensures state { state_of M.ReadMemory self.new ≡ ran_state n (state_of M.ReadMemory self.old) }
         ensures rest { M.WriteMemory.rest self.new.memory ≡ M.WriteMemory.rest self.old.memory }
-        ensures law { RunKept result (state_of M.ReadMemory self.old) (state_of M.ReadMemory self.new) }
+        ensures law { RunKept n result (state_of M.ReadMemory self.old) (state_of M.ReadMemory self.new) }
     {
         if n > MOST {
             return Err(RunFault {

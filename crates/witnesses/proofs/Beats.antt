@@ -6,8 +6,9 @@ use Rattle.isa.specs.declared.mnemonic.Class.TheVariants.{CompI}
 use Rattle.arch1.proofs.Clocks.{clock_keeps}
 use Rattle.arch1.proofs.Owed.{owes_pc}
 use Rattle.arch1.specs.Owes.{Owes, idle, fetched, clocks_of_class}
+use Rattle.arch1.specs.Phases.{phase_number}
 use Rattle.arch1.specs.Refinement.{Carries, Keeps, Refines, Rig, StillOpen}
-use Rattle.arch1.specs.declared.phase.Phase.TheVariants.{T1}
+use Rattle.arch1.specs.declared.phase.Phase.TheVariants.{T1, T2}
 use Rattle.machine.specs.Machine.{Arch, Step, went, cannot, stepped}
 use Rattle.machine.specs.Causes.{number_of}
 use Rattle.machine.specs.declared.cause.Cause.TheVariants.{Memory, UnalignedPc}
@@ -67,10 +68,16 @@ refusing = (
 )
 
 retired_at_once : Keeps one_open words (at before) (Ok (record { next = T1; retired = true })) one_clock words → ⊥
-retired_at_once k = let r = k before 0 refl (idle 0 0 0 0 false) in let least = at_least r.by in let clocks = r.clocks in omega arith
+unfolding Keeps
+retired_at_once k = let r = k.0 before 0 refl (idle 0 0 0 0 false) in let least = at_least r.by in let clocks = r.clocks in omega arith
 
-pub keeping : Keeps one_open words (at before) (Ok (record { next = T1; retired = false })) one_clock words × (Keeps one_open words (at before) (Ok (record { next = T1; retired = true })) one_clock words → ⊥)
-keeping = (clock_keeps one_open words (at before) _ one_clock words refl refl refl, retired_at_once)
+pub keeping : Keeps one_open words (at before) (Ok (record { next = T1; retired = false })) one_clock words × (Keeps one_open words (at before) (Ok (record { next = T1; retired = true })) one_clock words → ⊥) × (Keeps one_open words (at before) (Ok (record { next = T2; retired = false })) one_clock words → ⊥)
+unfolding Keeps
+keeping = (
+  clock_keeps one_open words (at before) _ one_clock words refl refl refl,
+  retired_at_once,
+  λ k. apart (λ p. eqb (phase_number p) 2) T2 T1 refl refl k.1,
+)
 
 pub open_for : StillOpen one_open 2 (rig_at before) × (StillOpen one_open 3 (rig_at before) → ⊥)
 unfolding reading_of

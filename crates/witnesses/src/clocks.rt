@@ -47,10 +47,10 @@ pub fn refuses()
     ensures { Refuses (Owes one_open) clocks_of_class behind (stepped one_open behind) (Memory (refused NoWord 1)) 4 (at behind) words × (Refuses (Owes one_open) clocks_of_class behind (stepped one_open behind) UnalignedPc 4 (at behind) words → ⊥) × (Refuses (Owes one_open) clocks_of_class before (stepped one_open before) (Memory (refused NoWord 0)) 0 (at before) words → ⊥) }
 {}
 
-/// A first clock that says that it retired does not keep what is owed.
+/// A first clock that says that it retired does not keep what is owed, nor does one that names another phase.
 #[tactic(auto, using(crate::proofs::Beats::keeping))]
 pub fn keeps()
-    ensures { Keeps one_open words (at before) (Ok (record { next = T1; retired = false })) one_clock words × (Keeps one_open words (at before) (Ok (record { next = T1; retired = true })) one_clock words → ⊥) }
+    ensures { Keeps one_open words (at before) (Ok (record { next = T1; retired = false })) one_clock words × (Keeps one_open words (at before) (Ok (record { next = T1; retired = true })) one_clock words → ⊥) × (Keeps one_open words (at before) (Ok (record { next = T2; retired = false })) one_clock words → ⊥) }
 {}
 
 /// Two clocks leave it open, and three do not.

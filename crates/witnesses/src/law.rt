@@ -1,8 +1,9 @@
-ghost use Rattle.std.specs.Prelude.{◌≡◌, ℕ, suc, true, Ok, Err};
+ghost use Rattle.std.specs.Prelude.{◌≡◌, ℕ, suc, true, false, Ok, Err};
 ghost use Rattle.arch1.specs.declared.phase.Phase.TheVariants.{T0, T1};
 ghost use Rattle.bench.specs.Calls.{new_state, tick_answer, ticked_state, step_answer, stepped_state, run_answer, ran_state, back_answer, back_state};
 ghost use Rattle.bench.specs.Law.{BackKept, BeginsOver, Kept, Next, Reached, RunKept, Shows, Stands, StepKept, Stood, TickKept};
 ghost use Rattle.bench.specs.State.{State, state_of};
+ghost use Rattle.bench.specs.declared.answers.BackFault.TheVariants.{NothingToTakeBack};
 ghost use Rattle.bench.specs.declared.look.Look.TheVariants as look;
 ghost use Rattle.machine.specs.Machine.{stepped};
 ghost use Rattle.machine.specs.declared.cause.Cause.TheVariants.{Memory, UnalignedPc};
@@ -45,13 +46,14 @@ pub fn kept()
     ensures still { Kept (λ (n : ℕ). n) (fresh_of one) (fresh_of one) × (Kept suc (fresh_of one) (fresh_of one) → ⊥) }
 {}
 
-/// Each call keeps the law with its own answer, and not with one that moves the count otherwise.
+/// Each call keeps the law with its own answer, and not with one that moves the count otherwise; nor does a tick or a run that
+/// does nothing, or a way back that declines while the journal has an instruction.
 #[tactic(auto, using(crate::proofs::Keeping::tick, crate::proofs::Keeping::step, crate::proofs::Keeping::run, crate::proofs::Keeping::back))]
 pub fn calls_kept()
-    ensures tick { TickKept (tick_answer (fresh_of one)) (fresh_of one) (ticked_state (fresh_of one)) × (TickKept (Ok (record { next = T1; retired = true })) (fresh_of one) (ticked_state (fresh_of one)) → ⊥) }
+    ensures tick { TickKept (tick_answer (fresh_of one)) (fresh_of one) (ticked_state (fresh_of one)) × (TickKept (Ok (record { next = T1; retired = true })) (fresh_of one) (ticked_state (fresh_of one)) → ⊥) × (TickKept (Ok (record { next = T0; retired = false })) (fresh_of one) (fresh_of one) → ⊥) }
     ensures step { StepKept (step_answer (fresh_of empty)) (fresh_of empty) (stepped_state (fresh_of empty)) × (StepKept (Ok (made_in 3)) (fresh_of empty) (stepped_state (fresh_of empty)) → ⊥) }
-    ensures run { RunKept (run_answer 1 (fresh_of empty)) (fresh_of empty) (ran_state 1 (fresh_of empty)) × (RunKept (Ok 1) (fresh_of empty) (ran_state 1 (fresh_of empty)) → ⊥) }
-    ensures back { BackKept (back_answer (fresh_of empty)) (fresh_of empty) (back_state (fresh_of empty)) × (BackKept (Ok 1) (fresh_of empty) (back_state (fresh_of empty)) → ⊥) }
+    ensures run { RunKept 1 (run_answer 1 (fresh_of empty)) (fresh_of empty) (ran_state 1 (fresh_of empty)) × (RunKept 1 (Ok 1) (fresh_of empty) (ran_state 1 (fresh_of empty)) → ⊥) × (RunKept 1 (Ok 0) (fresh_of one) (fresh_of one) → ⊥) }
+    ensures back { BackKept (back_answer (fresh_of empty)) (fresh_of empty) (back_state (fresh_of empty)) × (BackKept (Ok 1) (fresh_of empty) (back_state (fresh_of empty)) → ⊥) × (BackKept (Err NothingToTakeBack) (stepped_state (fresh_of one)) (stepped_state (fresh_of one)) → ⊥) }
 {}
 
 /// A look shows what the instructions that stand came to, and nothing else.

@@ -77,7 +77,7 @@ pub run_kept : (m : ℕ) (t u : State) (r : Result ℕ RunFault) → r ≡ run_a
 unfolding RunKept
 run_kept m t u r e f = (
   kept (λ n. run_count n r) t u (λ s n h. rw (e, f) (did_run n m t h)),
-  λ s n h. rw e (run_comes s n t (reached_lives s n t h) m),
+  λ s n h. rw (e, f) (run_comes s n t (reached_lives s n t h) m),
 )
 
 -- a run that was refused before its first step
@@ -95,7 +95,7 @@ unfolding BackKept
 back_kept t u r e f = (
   kept (λ n. back_count n r) t u (λ s n h. rw (e, f) (went_back n t h)),
   λ s n h. rw e (reached_stood s n t h),
-  rw e (goes_back t),
+  rw (e, f) (goes_back t),
 )
 
 -- what a look shows is the machine's, since what it is at is

@@ -1,5 +1,6 @@
 -- What every call of a bench keeps: the core with the machine, the counters, and a journal that takes the instructions back.
 use Rattle.std.proofs.Common.{◌≡◌, ℕ, zero, suc, ◌+◌, ◌*◌, ◌/◌, ◌%◌, ◌^◌, ◌<◌, Bool, true, false, cond, eqb, List, [], ◌∷◌, take, Some, None, Ok, Err, Option, Result, refl, ap, ◌∙◌, subst, arith}
+use Rattle.std.proofs.lemmas.List.{length-take}
 use Rattle.isa.specs.declared.mnemonic.Class.{Class}
 use Rattle.isa.specs.declared.mnemonic.Class.TheVariants as class
 use Rattle.alu.specs.Stores as lanes
@@ -29,7 +30,7 @@ use Rattle.processor.specs.Clocks.{Clocked, on, retired}
 use Rattle.bench.proofs.Undo.{Fit, Undoes, Takes, IfRetired, entry_takes_back}
 use Rattle.bench.specs.Calls.{up, down, open_clocks, new_state, tick_answer, ticked_state, ticked_by, entry, journal_by, retired_by}
 use Rattle.bench.specs.Entries.{entry_of}
-use Rattle.bench.specs.Law.{Start}
+use Rattle.bench.specs.Law.{Start, depth, deeper}
 use Rattle.bench.specs.State.{State}
 
 -- the clocks of a class
@@ -139,11 +140,12 @@ with_one r b k = record { arch = b; longs = r.longs + long k }
 abbrev pub TickBy : (s : Start) → ℕ → Run → State → State → Bool → Type 0
 TickBy s n r t u true =
     (b : Arch) × (k : Class) × (stepped s.kinds r.arch ≡ went b k) × Undoes s.kinds r.arch (entry t) b k × Sound s (suc n) (with_one r b k) u × (open_clocks u ≡ 0)
-TickBy s n r t u false = Sound s n r u × (open_clocks u ≡ suc (open_clocks t))
+    × (depth u ≡ deeper (depth t))
+TickBy s n r t u false = Sound s n r u × (open_clocks u ≡ suc (open_clocks t)) × (depth u ≡ depth t)
 
 abbrev pub TickOutcome : (s : Start) → ℕ → Run → State → State → Result Ticked CoreFault → Type 0
 TickOutcome s n r t u (Ok x) = TickBy s n r t u x.retired
-TickOutcome s n r t u (Err f) = (stepped s.kinds r.arch ≡ cannot f.cause) × (f.address ≡ r.arch.pc) × Sound s n r u × (open_clocks u ≡ 0)
+TickOutcome s n r t u (Err f) = (stepped s.kinds r.arch ≡ cannot f.cause) × (f.address ≡ r.arch.pc) × Sound s n r u × (open_clocks u ≡ 0) × (depth u ≡ depth t)
 
 module _ (s : Start) (n : ℕ) (r : Run) (c : Datapath) (j : List Entry) (k q g : ℕ) (there : after s.kinds s.arch n ≡ Some r)
     (owes : Owes s.kinds r.arch g c) (clk : k ≡ (3 * n + r.longs + g) % 2 ^ 64) (ret : q ≡ n % 2 ^ 64) (past : Past s j n r) (fit : Fit r.arch.words) where
@@ -164,12 +166,14 @@ module _ (s : Start) (n : ℕ) (r : Run) (c : Datapath) (j : List Entry) (k q g 
             (sound d (e ∷ take 255 j) (up k 1) (up q 1) 0 (ap (onward s.kinds) there ∙ ap (onward_by r) law.step) law.owes (omega arith) (omega arith)
             (n, r, law.by, refl, there, fit, took, refl, past_take s 255 j n r past) (fit_step s.kinds r.arch fit law.to law.by law.step)),
         owes_phase s.kinds law.to 0 d law.owes,
+        length-take 256 (e ∷ j),
       )
   by_flag false d W law undo =
       let here = owes_phase s.kinds r.arch g c owes in
       let next = owes_phase s.kinds r.arch (suc g) d law.0 in (
         rw law.1 (sound d j (up k 1) q (suc g) there law.0 (omega arith) ret past fit),
         omega arith,
+        refl,
       )
 
   by_answer : (x : Result Ticked CoreFault) (d : Datapath) (W : ℕ → ℕ) → Clocked (Owes s.kinds) clocks_of_class r.arch (stepped s.kinds r.arch) g (beat_of x) d W →
@@ -184,6 +188,7 @@ module _ (s : Start) (n : ℕ) (r : Run) (c : Datapath) (j : List Entry) (k q g 
         law.at,
         rw law.kept (sound d j (down k (phase_number c.phase)) q 0 there law.owes (omega arith) ret past fit),
         owes_phase s.kinds r.arch 0 d law.owes,
+        refl,
       )
 
 pub tick_law : (s : Start) (n : ℕ) (r : Run) (t : State) → Sound s n r t → TickOutcome s n r t (ticked_state t) (tick_answer t)

@@ -1,5 +1,5 @@
 -- What stands of a bench after n instructions, counted from the answers of its calls: the law between the bench and RV32I by whole instructions.
-use Rattle.std.specs.Prelude.{◌≡◌, ℕ, suc, ◌+◌, ◌-◌, ◌*◌, ◌/◌, ◌%◌, ◌^◌, ◌<◌, ◌≤◌, Bool, true, false, cond, nat_lt, [], Some, Ok, Err, Result}
+use Rattle.std.specs.Prelude.{◌≡◌, ℕ, zero, suc, ◌+◌, ◌-◌, ◌*◌, ◌/◌, ◌%◌, ◌^◌, ◌<◌, ◌≤◌, Bool, true, false, cond, nat_lt, min, length, Some, Ok, Err, Result}
 use Rattle.alu.specs.Loads.{loaded_of}
 use Rattle.alu.specs.declared.loads.Load.TheVariants.{ByteUnsigned}
 use Rattle.arch1.specs.Owes.{Owes}
@@ -72,9 +72,13 @@ abbrev pub step_count : ℕ → Result Stepped CoreFault → ℕ
 step_count n (Ok x) = suc n
 step_count n (Err f) = n
 
+-- how many steps a run has done
+abbrev pub steps_done : Result ℕ RunFault → ℕ
+steps_done (Ok k) = k
+steps_done (Err f) = f.done
+
 abbrev pub run_count : ℕ → Result ℕ RunFault → ℕ
-run_count n (Ok k) = n + k
-run_count n (Err f) = n + f.done
+run_count n r = n + steps_done r
 
 abbrev pub back_count : ℕ → Result ℕ BackFault → ℕ
 back_count n (Ok k) = n - k
@@ -106,18 +110,35 @@ Stood k t = (s : Start) (n : ℕ) → Reached s n t → k ≤ n
 abbrev pub Brings : (ℕ → ℕ) → ((ℕ → Kind) → ℕ → Run → Type 0) → State → Type 0
 Brings count P t = (s : Start) (n : ℕ) → Reached s n t → (come : Run) × (after s.kinds s.arch (count n) ≡ Some come) × P s.kinds (count n) come
 
+-- how many instructions the journal holds, which can be taken back
+abbrev pub depth : State → ℕ
+depth t = length t.journal
+
+-- with one more, and with k more: it keeps the newest 256
+abbrev pub deeper : ℕ → ℕ
+deeper d = min 256 (suc d)
+
+abbrev pub deeper_by : ℕ → ℕ → ℕ
+deeper_by zero d = d
+deeper_by (suc k) d = deeper (deeper_by k d)
+
 -- a clock of the instruction whose step is this: it leaves the instruction open, one clock further,
--- or it is the last of its clocks and the step is made
+-- or it is the last of its clocks, and the step is made and can be taken back
 abbrev pub Advances : Step → State → State → Bool → Type 0
-Advances st t u false = open_clocks u ≡ suc (open_clocks t)
-Advances (went b k) t u true = (suc (open_clocks t) ≡ 3 + long k) × (open_clocks u ≡ 0)
+Advances st t u false = (open_clocks u ≡ suc (open_clocks t)) × (depth u ≡ depth t)
+Advances (went b k) t u true = (suc (open_clocks t) ≡ 3 + long k) × (open_clocks u ≡ 0) × (depth u ≡ deeper (depth t))
 Advances (cannot c) t u true = ⊥
 
 -- a clock on the instruction at a: it is refused only if the step cannot be carried out, for the first cause, and then none is open
 abbrev pub Ticks : Arch → Step → Result Ticked CoreFault → State → State → Type 0
 Ticks a st (Ok x) t u = Advances st t u x.retired
 Ticks a (went b k) (Err f) t u = ⊥
-Ticks a (cannot c) (Err f) t u = (f.address ≡ a.pc) × (f.cause ≡ c) × (open_clocks u ≡ 0)
+Ticks a (cannot c) (Err f) t u = (f.address ≡ a.pc) × (f.cause ≡ c) × (open_clocks u ≡ 0) × (depth u ≡ depth t)
+
+-- a step leaves none open, and it can be taken back if it was made
+abbrev pub Closes : Result Stepped CoreFault → State → State → Type 0
+Closes (Ok x) t u = (open_clocks u ≡ 0) × (depth u ≡ deeper (depth t))
+Closes (Err f) t u = (open_clocks u ≡ 0) × (depth u ≡ depth t)
 
 -- a run of m steps that stopped where the next instruction is the one at a: a step was refused exactly where it cannot be carried out,
 -- or there are too many
@@ -131,9 +152,9 @@ Ends m a st (Ok k) = (k ≡ m) × (m ≤ 1000000)
 Ends m a st (Err f) = Stops m a st f.done f.stop
 
 -- a way back takes an open instruction, and else the newest one that stands; it declines only if the journal has none
-abbrev pub GoesBack : Result ℕ BackFault → State → Type 0
-GoesBack (Ok k) t = k ≡ cond (nat_lt 0 (open_clocks t)) 0 1
-GoesBack (Err f) t = (open_clocks t ≡ 0) × (t.journal ≡ [])
+abbrev pub GoesBack : Result ℕ BackFault → State → State → Type 0
+GoesBack (Ok k) t u = (k ≡ cond (nat_lt 0 (open_clocks t)) 0 1) × (depth u + k ≡ depth t)
+GoesBack (Err f) t u = (open_clocks t ≡ 0) × (depth t ≡ 0) × (u ≡ t)
 
 -- by the answer of each call
 unfoldable pub TickKept : Result Ticked CoreFault → State → State → Type 0
@@ -142,13 +163,15 @@ TickKept r t u =
 
 unfoldable pub StepKept : Result Stepped CoreFault → State → State → Type 0
 StepKept r t u =
-    Kept (λ n. step_count n r) t u × Brings (λ n. n) (λ K n come. Next K come.arch (stepped K come.arch) r × (open_clocks u ≡ 0)) t
+    Kept (λ n. step_count n r) t u × Brings (λ n. n) (λ K n come. Next K come.arch (stepped K come.arch) r × Closes r t u) t
 
 unfoldable pub RunKept : ℕ → Result ℕ RunFault → State → State → Type 0
-RunKept m r t u = Kept (λ n. run_count n r) t u × Brings (λ n. run_count n r) (λ K n come. Ends m come.arch (stepped K come.arch) r) t
+RunKept m r t u =
+    Kept (λ n. run_count n r) t u
+    × Brings (λ n. run_count n r) (λ K n come. Ends m come.arch (stepped K come.arch) r × (depth u ≡ deeper_by (steps_done r) (depth t))) t
 
 unfoldable pub BackKept : Result ℕ BackFault → State → State → Type 0
-BackKept r t u = Kept (λ n. back_count n r) t u × Stood (taken_back r) t × GoesBack r t
+BackKept r t u = Kept (λ n. back_count n r) t u × Stood (taken_back r) t × GoesBack r t u
 
 -- a new bench of s
 pub record Begins (s : Start) (t : State) : Type 0 where

@@ -22,7 +22,7 @@ use Rattle.memory.specs.declared.kind.Kind.TheVariants.{Absent, Fixed, Open}
 use Rattle.bench.proofs.Laws.{StepOutcome, step_law, long_few, stands, come_is}
 use Rattle.bench.proofs.Sound.{Sound, with_one}
 use Rattle.bench.specs.Calls.{open_clocks, step_answer, stepped_state, run_answer_on, ran_on, run_answer_for, ran_for}
-use Rattle.bench.specs.Law.{Start}
+use Rattle.bench.specs.Law.{Start, depth}
 use Rattle.bench.specs.State.{State}
 use Rattle.bench.specs.declared.answers.Stepped.{Stepped}
 use Rattle.trace_lines.specs.Lines.{step_of, stop_of}
@@ -109,11 +109,11 @@ module _ (s : Start) where
         omega (arith, clk, longs, none, few, small),
       )
 
-  step_there : (n : ℕ) (r : Run) (t : State) → At s n r t → StepOutcome s n r (stepped_state t) (step_answer t)
+  step_there : (n : ℕ) (r : Run) (t : State) → At s n r t → StepOutcome s n r (depth t) (stepped_state t) (step_answer t)
   step_there n r t o = step_law s n r t o.sound
 
   -- after a step that was answered
-  further : (n : ℕ) (r : Run) (t u : State) (y : Stepped) → At s n r t → (law : StepOutcome s n r u (Ok y)) → At s (suc n) (with_one r law.0 law.1) u
+  further : (n : ℕ) (r : Run) (t u : State) (y : Stepped) → At s n r t → (law : StepOutcome s n r (depth t) u (Ok y)) → At s (suc n) (with_one r law.0 law.1) u
   further n r t u y o law =
       let few = long_few law.1 in let before = o.longs in record {
         sound = law.4;
@@ -123,11 +123,11 @@ module _ (s : Start) where
       }
 
   -- after one that was refused
-  refused : (n : ℕ) (r : Run) (t u : State) (f : CoreFault) → At s n r t → StepOutcome s n r u (Err f) → At s n r u
+  refused : (n : ℕ) (r : Run) (t u : State) (f : CoreFault) → At s n r t → StepOutcome s n r (depth t) u (Err f) → At s n r u
   refused n r t u f o law = record { sound = law.2; closed = law.3; longs = o.longs; pc = o.pc }
 
   -- the lines
-  lines_by : (n m : ℕ) (r : Run) (t u : State) (y : Result Stepped CoreFault) → At s n r t → StepOutcome s n r u y →
+  lines_by : (n m : ℕ) (r : Run) (t u : State) (y : Result Stepped CoreFault) → At s n r t → StepOutcome s n r (depth t) u y →
       ((q : Run) → At s (suc n) q u → lines_for m u ≡ lines_from s.kinds m q.arch) →
       steps.lines_on y (lines_for m u) ≡ lines_on r.arch (stepped s.kinds r.arch) (lines_from s.kinds m)
   lines_by n m r t u (Ok y) o law go =
@@ -146,7 +146,7 @@ module _ (s : Start) where
   stop_there : (number n : ℕ) (r : Run) (t : State) → At s n r t → n < 2 ^ 32 → stop_of number t.core.pc t.retired t.clocks ≡ stop_of number r.arch.pc n (3 * n + r.longs)
   stop_there number n r t o small = let all = shown n r t o small in rw (all.0, all.1, all.2) refl
 
-  stop_by : (n m clocks : ℕ) (r : Run) (t u : State) (y : Result Stepped CoreFault) → At s n r t → StepOutcome s n r u y → clocks ≡ 3 * n + r.longs → n < 2 ^ 32 →
+  stop_by : (n m clocks : ℕ) (r : Run) (t u : State) (y : Result Stepped CoreFault) → At s n r t → StepOutcome s n r (depth t) u y → clocks ≡ 3 * n + r.longs → n < 2 ^ 32 →
       ((q : Run) (more : ℕ) → At s (n + 1) q u → more ≡ 3 * (n + 1) + q.longs →
       stop_after (run_answer_for (n + 1) m u) (ran_for m u) ≡ stop_from s.kinds m (n + 1) more q.arch) →
       stop_after (run_answer_on n y (run_answer_for (n + 1) m u)) (ran_on y u (ran_for m u)) ≡ stop_on n clocks r.arch (stepped s.kinds r.arch) (stop_from s.kinds m)
@@ -165,7 +165,7 @@ module _ (s : Start) where
       (λ q more next e. stop_is m (n + 1) more q (stepped_state t) next e (omega (arith, small)))
 
   -- PC after a run
-  pc_by : (n m : ℕ) (r : Run) (t u : State) (y : Result Stepped CoreFault) → At s n r t → StepOutcome s n r u y → n < 2 ^ 32 →
+  pc_by : (n m : ℕ) (r : Run) (t u : State) (y : Result Stepped CoreFault) → At s n r t → StepOutcome s n r (depth t) u y → n < 2 ^ 32 →
       ((q : Run) → At s (suc n) q u → (ran_for m u).core.pc < 2 ^ 32) → (ran_on y u (ran_for m u)).core.pc < 2 ^ 32
   pc_by n m r t u (Ok y) o law small go = go _ (further n r t u y o law)
   pc_by n m r t u (Err f) o law small go = let at = shown n r u (refused n r t u f o law) small in let fits = o.pc in rw at.0 fits

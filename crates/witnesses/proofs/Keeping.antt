@@ -1,5 +1,5 @@
 -- Calls that keep the law, and answers with which they would not.
-use Rattle.std.proofs.Common.{◌≡◌, ℕ, suc, ◌≤◌, true, false, eqb, length, Ok, Err, refl, sym, ◌∙◌, arith}
+use Rattle.std.proofs.Common.{◌≡◌, ℕ, suc, ◌≤◌, true, false, eqb, Ok, Err, refl, sym, ◌∙◌, arith}
 use Rattle.arch1.specs.declared.phase.Phase.TheVariants.{T0, T1}
 use Rattle.bench.proofs.Keeps.{reached_stands, tick_kept, step_kept, run_kept, back_kept}
 use Rattle.bench.specs.Calls.{step_answer_for, stepped_for, ran_for, tick_answer, ticked_state, step_answer, stepped_state, run_answer, ran_state, back_answer, back_state}
@@ -35,7 +35,7 @@ unfolding TickKept
 tick = (
   tick_kept (fresh_of one) (ticked_state (fresh_of one)) (tick_answer (fresh_of one)) refl refl,
   λ k. apart (λ n. eqb n 0) 0 1 refl refl (k.0.stands one 0 fresh).retired,
-  λ k. apart (λ n. eqb n 0) 0 1 refl refl (k.2 one 0 fresh).2,
+  λ k. apart (λ n. eqb n 0) 0 1 refl refl (k.2 one 0 fresh).2.0,
 )
 
 pub step : StepKept (step_answer (fresh_of empty)) (fresh_of empty) (stepped_state (fresh_of empty)) × (StepKept (Ok (made_in 3)) (fresh_of empty) (stepped_state (fresh_of empty)) → ⊥)
@@ -50,7 +50,7 @@ unfolding RunKept ran_for step_answer_for stepped_for
 run = (
   run_kept 1 (fresh_of empty) (ran_state 1 (fresh_of empty)) (run_answer 1 (fresh_of empty)) refl refl,
   λ k. apart (λ n. eqb n 0) 0 1 refl refl (k.0.stands empty 0 fresh).retired,
-  λ k. apart (λ n. eqb n 0) 0 1 refl refl (k.1 one 0 fresh).2.0,
+  λ k. apart (λ n. eqb n 0) 0 1 refl refl (k.1 one 0 fresh).2.0.0,
 )
 
 not_stood : Stood 1 (fresh_of empty) → ⊥
@@ -64,7 +64,7 @@ unfolding BackKept reading_of stepped_for
 back = (
   back_kept (fresh_of empty) (back_state (fresh_of empty)) (back_answer (fresh_of empty)) refl refl,
   λ k. not_stood k.1,
-  λ k. apart (λ j. eqb (length j) 0) _ _ refl refl (sym k.2.1),
+  λ k. apart (λ n. eqb n 0) 0 1 refl refl (sym k.2.1),
 )
 
 pub counted_begins : {M : Type 0} (m : Ghosts M) (memory : M) (rs : RegisterFile) (p : ℕ) (t : State) → t.retired ≡ 1 → BeginsOver m memory rs p t → ⊥

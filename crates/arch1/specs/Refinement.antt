@@ -10,13 +10,13 @@ use Rattle.arch1.specs.declared.phase.Phase.TheVariants.{T0}
 use Rattle.arch1.specs.declared.phase.Ticked.{Ticked}
 use Rattle.arch1.specs.declared.phase.CoreFault.{CoreFault}
 
--- the phases that an answer names: the one that follows, and of a refusal that of the clock
+-- an answer names the phase that follows, and a refusal the phase of the refused clock
 abbrev pub NamesPhases : Result Ticked CoreFault → Datapath → Datapath → Type 0
 NamesPhases (Ok t) c d = t.next ≡ d.phase
 NamesPhases (Err f) c d = f.phase ≡ c.phase
 
 -- a clock of the core c over the words W, which answers r and leaves the core d and the words V: whatever instruction
--- the core is in, and after however many of its clocks, it keeps what it owes
+-- the core is in, and after however many of its clocks, it keeps what it owes; and the answer names the right phase
 unfoldable pub Keeps : (ℕ → Kind) → (ℕ → ℕ) → Datapath → Result Ticked CoreFault → Datapath → (ℕ → ℕ) → Type 0
 Keeps K W c r d V =
     ((a : Arch) (g : ℕ) → a.words ≡ W → Owes K a g c → Clocked (Owes K) clocks_of_class a (stepped K a) g (beat_of r) d V) × NamesPhases r c d

@@ -113,7 +113,7 @@ shown s n t h look.Dr = tt
 shown s n t h look.Ar = tt
 shown s n t h look.Flg = tt
 shown s n t h look.Phase = tt
-shown s n t h look.Journal = tt
+shown s n t h look.Journal = refl
 
 pub looked : (at : Look) (a : Result ℕ LookFault) (t : State) → a ≡ look_answer at t → Shows at a t
 unfolding Shows

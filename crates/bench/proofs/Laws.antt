@@ -20,7 +20,7 @@ use Rattle.bench.proofs.Sound.{Past, Sound, sound, sound_new, with_one, TickBy, 
 use Rattle.bench.proofs.Undo.{Fit}
 use Rattle.bench.specs.Calls.{down, open_clocks, new_state, tick_answer, ticked_state, entry, stepped_of, last_answer, step_answer_on, stepped_on, step_answer_for, stepped_for, step_answer, stepped_state}
 use Rattle.bench.specs.Calls.{run_answer_on, ran_on, run_answer_for, ran_for, run_answer, ran_state, closed_state, took_back, took_answer, back_state, back_answer}
-use Rattle.bench.specs.Law.{Start, Stands, Next, tick_count, step_count, run_count, back_count, taken_back, steps_done, depth, deeper, deeper_by, Advances, Ticks, Closes, Ends, GoesBack}
+use Rattle.bench.specs.Law.{Start, Stands, Next, tick_count, step_count, run_count, back_count, taken_back, steps_done, depth, deeper, deeper_by, Advances, Ticks, Closes, Settles, Ends, GoesBack}
 use Rattle.bench.specs.State.{State}
 use Rattle.bench.specs.declared.answers.RunFault.{RunFault}
 use Rattle.bench.specs.declared.answers.Stepped.{Stepped}
@@ -75,42 +75,45 @@ module _ (s : Start) (n : ℕ) (r : Run) where
 abbrev pub Lives : Start → ℕ → State → Type 0
 Lives s n t = (r : Run) × Sound s n r t
 
--- what a run of m steps comes to, in the state u with d instructions in the journal before
-abbrev RunOutcome : Start → ℕ → ℕ → ℕ → State → Result ℕ RunFault → Type 0
-RunOutcome s n m d u y = (r : Run) × Sound s (run_count n y) r u × Ends m r.arch (stepped s.kinds r.arch) y × (depth u ≡ deeper_by (steps_done y) d)
+-- what a run of m steps from b comes to, in the state u
+abbrev RunOutcome : Start → ℕ → ℕ → State → State → Result ℕ RunFault → Type 0
+RunOutcome s n m b u y =
+    (r : Run) × Sound s (run_count n y) r u × Ends m r.arch (stepped s.kinds r.arch) y b u × (depth u ≡ deeper_by (steps_done y) (depth b))
 
-module _ (s : Start) (base m d : ℕ) (few : m ≤ 1000000) where
-  run_on : (done k : ℕ) (r : Run) (t : State) (y : Result Stepped CoreFault) → done + suc k ≡ m → depth t ≡ deeper_by done d →
+module _ (s : Start) (base m : ℕ) (b : State) (few : m ≤ 1000000) where
+  run_on : (done k : ℕ) (r : Run) (t : State) (y : Result Stepped CoreFault) → done + suc k ≡ m → depth t ≡ deeper_by done (depth b) →
       StepOutcome s (base + done) r (depth t) (stepped_state t) y →
-      ((u : State) (q : Run) → depth u ≡ deeper_by (done + 1) d → Sound s (base + (done + 1)) q u → RunOutcome s base m d (ran_for k u) (run_answer_for (done + 1) k u)) →
-      RunOutcome s base m d (ran_on y (stepped_state t) (ran_for k (stepped_state t))) (run_answer_on done y (run_answer_for (done + 1) k (stepped_state t)))
+      ((u : State) (q : Run) → depth u ≡ deeper_by (done + 1) (depth b) → Settles (done + 1) b u → Sound s (base + (done + 1)) q u →
+      RunOutcome s base m b (ran_for k u) (run_answer_for (done + 1) k u)) →
+      RunOutcome s base m b (ran_on y (stepped_state t) (ran_for k (stepped_state t))) (run_answer_on done y (run_answer_for (done + 1) k (stepped_state t)))
   run_on done k r t (Ok x) all deep law go =
       let one : suc (base + done) ≡ base + (done + 1) = omega arith in
       let more : suc done ≡ done + 1 = omega arith in
-      go (stepped_state t) (with_one r law.0 law.1) (law.6 ∙ ap deeper deep ∙ ap (λ (z : ℕ). deeper_by z d) more) (rw one at law.4)
+      go (stepped_state t) (with_one r law.0 law.1) (law.6 ∙ ap deeper deep ∙ ap (λ (z : ℕ). deeper_by z (depth b)) more)
+      (subst (λ (z : ℕ). Settles z b (stepped_state t)) more law.5) (rw one at law.4)
   run_on done k r t (Err f) all deep law go =
       let fewer : done < m = omega (arith, all) in
-      (r, law.2, rw law.0 (fewer, law.1, refl), law.4 ∙ deep)
+      (r, law.2, rw law.0 (few, fewer, law.1, refl, law.3), law.4 ∙ deep)
 
-  run_law_for : (k done : ℕ) (r : Run) (t : State) → done + k ≡ m → depth t ≡ deeper_by done d → Sound s (base + done) r t →
-      RunOutcome s base m d (ran_for k t) (run_answer_for done k t)
+  run_law_for : (k done : ℕ) (r : Run) (t : State) → done + k ≡ m → depth t ≡ deeper_by done (depth b) → Settles done b t → Sound s (base + done) r t →
+      RunOutcome s base m b (ran_for k t) (run_answer_for done k t)
   unfolding run_answer_for ran_for
-  run_law_for zero done r t all deep o = let every : done ≡ m = omega (arith, all) in (r, o, (every, few), deep)
-  run_law_for (suc k) done r t all deep o =
+  run_law_for zero done r t all deep rest o = let every : done ≡ m = omega (arith, all) in (r, o, (every, few, rest), deep)
+  run_law_for (suc k) done r t all deep rest o =
       run_on done k r t (step_answer t) all deep (step_law s (base + done) r t o) (λ u q. run_law_for k (done + 1) q u (omega (arith, all)))
 
 run_law_by : (s : Start) (n m : ℕ) (r : Run) (t : State) (b : Bool) → ltb 1000000 m ≡ b → Sound s n r t →
-    RunOutcome s n m (depth t) (cond b t (ran_for m t)) (cond b (Err (record { done = 0; stop = stop.TooMany })) (run_answer_for 0 m t))
+    RunOutcome s n m t (cond b t (ran_for m t)) (cond b (Err (record { done = 0; stop = stop.TooMany })) (run_answer_for 0 m t))
 run_law_by s n m r t true e o =
     let same : n + 0 ≡ n = omega arith in
     let many : 1000000 < m = grind (arith, nat_tests, e) in
-    (r, rw same o, (many, refl), refl)
+    (r, rw same o, (many, refl, refl), refl)
 run_law_by s n m r t false e o =
     let same : n + 0 ≡ n = omega arith in
     let few : m ≤ 1000000 = grind (arith, nat_tests, e) in
-    run_law_for s n m (depth t) few m 0 r t (omega arith) refl (rw same o)
+    run_law_for s n m t few m 0 r t (omega arith) refl refl (rw same o)
 
-run_law : (s : Start) (n m : ℕ) (t : State) → Lives s n t → RunOutcome s n m (depth t) (ran_state m t) (run_answer m t)
+run_law : (s : Start) (n m : ℕ) (t : State) → Lives s n t → RunOutcome s n m t (ran_state m t) (run_answer m t)
 run_law s n m t o = run_law_by s n m o.0 t (ltb 1000000 m) refl o.1
 
 pub run_lives : (s : Start) (n m : ℕ) (t : State) → Lives s n t → Lives s (run_count n (run_answer m t)) (ran_state m t)
@@ -285,15 +288,15 @@ module _ (s : Start) (n : ℕ) (t : State) (o : Lives s n t) where
   pub run_comes : (m : ℕ) →
       (come : Run)
       × (after s.kinds s.arch (run_count n (run_answer m t)) ≡ Some come)
-      × (Ends m come.arch (stepped s.kinds come.arch) (run_answer m t) × (depth (ran_state m t) ≡ deeper_by (steps_done (run_answer m t)) (depth t)))
+      × (Ends m come.arch (stepped s.kinds come.arch) (run_answer m t) t (ran_state m t) × (depth (ran_state m t) ≡ deeper_by (steps_done (run_answer m t)) (depth t)))
   run_comes m = let out = run_law s n m t o in (out.0, came s _ out.0 _ out.1, (out.2, out.3))
 
 -- what a way back answers, by whether an instruction is open and what the journal holds
 goes_back_by : (t : State) (b : Bool) (j : List Entry) → ltb 0 (open_clocks t) ≡ b → t.journal ≡ j →
     GoesBack (cond b (Ok 0) (took_answer (popped j))) t (cond b (closed_state t) (took_back t (popped j)))
-goes_back_by t true j e h = (rw e refl, omega arith)
+goes_back_by t true j e h = (rw e refl, refl, omega arith)
 goes_back_by t false [] e h = let none : open_clocks t ≡ 0 = grind (arith, nat_tests, e) in (none, ap length h, refl)
-goes_back_by t false (x ∷ xs) e h = let one_less : length (remaining t.journal) + 1 ≡ length t.journal = rw h (omega arith) in (rw e refl, one_less)
+goes_back_by t false (x ∷ xs) e h = let one_less : length (remaining t.journal) + 1 ≡ length t.journal = rw h (omega arith) in (rw e refl, refl, one_less)
 
 pub goes_back : (t : State) → GoesBack (back_answer t) t (back_state t)
 goes_back t = goes_back_by t (ltb 0 (open_clocks t)) t.journal refl refl

@@ -106,7 +106,7 @@ pub record Kept (count : ℕ → ℕ) (t u : State) : Type 0 where
 abbrev pub Stood : ℕ → State → Type 0
 Stood k t = (s : Start) (n : ℕ) → Reached s n t → k ≤ n
 
--- whatever calls came before on a new bench, this holds of where the instructions that stand bring the machine, their count moved so
+-- whatever calls came before on a new bench, P holds of where the machine is after the instructions that stand, their count moved so
 abbrev pub Brings : (ℕ → ℕ) → ((ℕ → Kind) → ℕ → Run → Type 0) → State → Type 0
 Brings count P t = (s : Start) (n : ℕ) → Reached s n t → (come : Run) × (after s.kinds s.arch (count n) ≡ Some come) × P s.kinds (count n) come
 
@@ -114,7 +114,7 @@ Brings count P t = (s : Start) (n : ℕ) → Reached s n t → (come : Run) × (
 abbrev pub depth : State → ℕ
 depth t = length t.journal
 
--- with one more, and with k more: it keeps the newest 256
+-- how many after one more has retired, and after k more: the newest 256 at most
 abbrev pub deeper : ℕ → ℕ
 deeper d = min 256 (suc d)
 
@@ -123,13 +123,13 @@ deeper_by zero d = d
 deeper_by (suc k) d = deeper (deeper_by k d)
 
 -- a clock of the instruction whose step is this: it leaves the instruction open, one clock further,
--- or it is the last of its clocks, and the step is made and can be taken back
+-- or it is the last of its clocks, of a step that can be carried out, and then none is open and the journal has one more
 abbrev pub Advances : Step → State → State → Bool → Type 0
 Advances st t u false = (open_clocks u ≡ suc (open_clocks t)) × (depth u ≡ depth t)
 Advances (went b k) t u true = (suc (open_clocks t) ≡ 3 + long k) × (open_clocks u ≡ 0) × (depth u ≡ deeper (depth t))
 Advances (cannot c) t u true = ⊥
 
--- a clock on the instruction at a: it is refused only if the step cannot be carried out, for the first cause, and then none is open
+-- a clock of the instruction at a: it is refused only if the step cannot be carried out, for the first cause, and then none is open
 abbrev pub Ticks : Arch → Step → Result Ticked CoreFault → State → State → Type 0
 Ticks a st (Ok x) t u = Advances st t u x.retired
 Ticks a (went b k) (Err f) t u = ⊥
@@ -140,20 +140,26 @@ abbrev pub Closes : Result Stepped CoreFault → State → State → Type 0
 Closes (Ok x) t u = (open_clocks u ≡ 0) × (depth u ≡ deeper (depth t))
 Closes (Err f) t u = (open_clocks u ≡ 0) × (depth u ≡ depth t)
 
--- a run of m steps that stopped where the next instruction is the one at a: a step was refused exactly where it cannot be carried out,
--- or there are too many
-abbrev pub Stops : ℕ → Arch → Step → ℕ → Stop → Type 0
-Stops m a st done stop.TooMany = (1000000 < m) × (done ≡ 0)
-Stops m a (went b k) done (stop.Core f) = ⊥
-Stops m a (cannot c) done (stop.Core f) = (done < m) × (f.address ≡ a.pc) × (f.cause ≡ c)
+-- a run of m steps that stopped before its last, where the next instruction is the one at a: that one cannot be carried out,
+-- or m is above 1,000,000, and then no step was done and nothing has changed
+abbrev pub Stops : ℕ → Arch → Step → ℕ → Stop → State → State → Type 0
+Stops m a st done stop.TooMany t u = (1000000 < m) × (done ≡ 0) × (u ≡ t)
+Stops m a (went b k) done (stop.Core f) t u = ⊥
+Stops m a (cannot c) done (stop.Core f) t u = (m ≤ 1000000) × (done < m) × (f.address ≡ a.pc) × (f.cause ≡ c) × (open_clocks u ≡ 0)
 
-abbrev pub Ends : ℕ → Arch → Step → Result ℕ RunFault → Type 0
-Ends m a st (Ok k) = (k ≡ m) × (m ≤ 1000000)
-Ends m a st (Err f) = Stops m a st f.done f.stop
+-- after k steps none is open; after no step nothing has changed
+abbrev pub Settles : ℕ → State → State → Type 0
+Settles zero t u = u ≡ t
+Settles (suc k) t u = open_clocks u ≡ 0
 
--- a way back takes an open instruction, and else the newest one that stands; it declines only if the journal has none
+abbrev pub Ends : ℕ → Arch → Step → Result ℕ RunFault → State → State → Type 0
+Ends m a st (Ok k) t u = (k ≡ m) × (m ≤ 1000000) × Settles k t u
+Ends m a st (Err f) t u = Stops m a st f.done f.stop t u
+
+-- a way back drops an open instruction, and else takes the newest of the journal; it declines, and changes nothing, only if none is open
+-- and the journal is empty
 abbrev pub GoesBack : Result ℕ BackFault → State → State → Type 0
-GoesBack (Ok k) t u = (k ≡ cond (nat_lt 0 (open_clocks t)) 0 1) × (depth u + k ≡ depth t)
+GoesBack (Ok k) t u = (k ≡ cond (nat_lt 0 (open_clocks t)) 0 1) × (open_clocks u ≡ 0) × (depth u + k ≡ depth t)
 GoesBack (Err f) t u = (open_clocks t ≡ 0) × (depth t ≡ 0) × (u ≡ t)
 
 -- by the answer of each call
@@ -168,7 +174,7 @@ StepKept r t u =
 unfoldable pub RunKept : ℕ → Result ℕ RunFault → State → State → Type 0
 RunKept m r t u =
     Kept (λ n. run_count n r) t u
-    × Brings (λ n. run_count n r) (λ K n come. Ends m come.arch (stepped K come.arch) r × (depth u ≡ deeper_by (steps_done r) (depth t))) t
+    × Brings (λ n. run_count n r) (λ K n come. Ends m come.arch (stepped K come.arch) r t u × (depth u ≡ deeper_by (steps_done r) (depth t))) t
 
 unfoldable pub BackKept : Result ℕ BackFault → State → State → Type 0
 BackKept r t u = Kept (λ n. back_count n r) t u × Stood (taken_back r) t × GoesBack r t u
@@ -188,13 +194,14 @@ byte_loaded address (Ok word) = Ok (loaded_of ByteUnsigned word address)
 byte_loaded address (Err f) = Err (Memory f)
 
 -- the answer of a look is that of the machine where n instructions brought it to: a register, a byte, between instructions PC, and the counters;
--- of the open instruction and of the journal the machine knows nothing
+-- and how many instructions can be taken back. Of what it shows of the open instruction nothing is said here
 abbrev pub ShownBy : (ℕ → Kind) → Run → ℕ → State → Look → Result ℕ LookFault → Type 0
 ShownBy K come n t (look.Register k) a = a ≡ cond (nat_lt 31 k) (Err NoRegister) (Ok (x come.arch k))
 ShownBy K come n t (look.Byte address) a = a ≡ byte_loaded address (read_of (address / 4) (K (address / 4)) (come.arch.words (address / 4)))
 ShownBy K come n t look.Pc a = t.core.phase ≡ T0 → a ≡ Ok come.arch.pc
 ShownBy K come n t look.Clocks a = a ≡ Ok ((3 * n + come.longs + open_clocks t) % 2 ^ 64)
 ShownBy K come n t look.Retired a = a ≡ Ok (n % 2 ^ 64)
+ShownBy K come n t look.Journal a = a ≡ Ok (depth t)
 ShownBy K come n t _ a = Unit {0}
 
 -- whatever calls came before on a new bench, a look shows what the instructions that stand came to

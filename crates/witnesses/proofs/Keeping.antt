@@ -59,11 +59,12 @@ not_stood s = let l : 1 ≤ 0 = s empty 0 fresh in omega arith
 pub nothing_to_take : Stood 0 (fresh_of empty) × (Stood 1 (fresh_of empty) → ⊥)
 nothing_to_take = (λ s n r. omega arith, not_stood)
 
-pub back : BackKept (back_answer (fresh_of empty)) (fresh_of empty) (back_state (fresh_of empty)) × (BackKept (Ok 1) (fresh_of empty) (back_state (fresh_of empty)) → ⊥) × (BackKept (Err NothingToTakeBack) (stepped_state (fresh_of one)) (stepped_state (fresh_of one)) → ⊥)
+pub back : BackKept (back_answer (fresh_of empty)) (fresh_of empty) (back_state (fresh_of empty)) × (BackKept (Ok 1) (fresh_of empty) (back_state (fresh_of empty)) → ⊥) × (BackKept (Err NothingToTakeBack) (stepped_state (fresh_of one)) (stepped_state (fresh_of one)) → ⊥) × (BackKept (Ok 0) (ticked_state (fresh_of one)) (ticked_state (fresh_of one)) → ⊥)
 unfolding BackKept reading_of stepped_for
 back = (
   back_kept (fresh_of empty) (back_state (fresh_of empty)) (back_answer (fresh_of empty)) refl refl,
   λ k. not_stood k.1,
+  λ k. apart (λ n. eqb n 0) 0 1 refl refl (sym k.2.1),
   λ k. apart (λ n. eqb n 0) 0 1 refl refl (sym k.2.1),
 )
 

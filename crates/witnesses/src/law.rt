@@ -47,13 +47,13 @@ pub fn kept()
 {}
 
 /// Each call keeps the law with its own answer, and not with one that moves the count otherwise; nor does a tick or a run that
-/// does nothing, or a way back that declines while the journal has an instruction.
+/// does nothing, or a way back that declines while the journal has an instruction, or leaves one open.
 #[tactic(auto, using(crate::proofs::Keeping::tick, crate::proofs::Keeping::step, crate::proofs::Keeping::run, crate::proofs::Keeping::back))]
 pub fn calls_kept()
     ensures tick { TickKept (tick_answer (fresh_of one)) (fresh_of one) (ticked_state (fresh_of one)) × (TickKept (Ok (record { next = T1; retired = true })) (fresh_of one) (ticked_state (fresh_of one)) → ⊥) × (TickKept (Ok (record { next = T0; retired = false })) (fresh_of one) (fresh_of one) → ⊥) }
     ensures step { StepKept (step_answer (fresh_of empty)) (fresh_of empty) (stepped_state (fresh_of empty)) × (StepKept (Ok (made_in 3)) (fresh_of empty) (stepped_state (fresh_of empty)) → ⊥) }
     ensures run { RunKept 1 (run_answer 1 (fresh_of empty)) (fresh_of empty) (ran_state 1 (fresh_of empty)) × (RunKept 1 (Ok 1) (fresh_of empty) (ran_state 1 (fresh_of empty)) → ⊥) × (RunKept 1 (Ok 0) (fresh_of one) (fresh_of one) → ⊥) }
-    ensures back { BackKept (back_answer (fresh_of empty)) (fresh_of empty) (back_state (fresh_of empty)) × (BackKept (Ok 1) (fresh_of empty) (back_state (fresh_of empty)) → ⊥) × (BackKept (Err NothingToTakeBack) (stepped_state (fresh_of one)) (stepped_state (fresh_of one)) → ⊥) }
+    ensures back { BackKept (back_answer (fresh_of empty)) (fresh_of empty) (back_state (fresh_of empty)) × (BackKept (Ok 1) (fresh_of empty) (back_state (fresh_of empty)) → ⊥) × (BackKept (Err NothingToTakeBack) (stepped_state (fresh_of one)) (stepped_state (fresh_of one)) → ⊥) × (BackKept (Ok 0) (ticked_state (fresh_of one)) (ticked_state (fresh_of one)) → ⊥) }
 {}
 
 /// A look shows what the instructions that stand came to, and nothing else.

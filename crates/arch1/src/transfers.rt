@@ -208,6 +208,8 @@ impl Core {
 
     /// What the next clock asks of the memory: in T0 the word at PC, in T2 a load's word or a store's lanes.
     /// Nothing where the address is not aligned, since the clock is then refused.
+    // Put into every caller, as `perform` is.
+    #[inline(always)]
     pub fn access(&self) -> Access
         ensures { result ≡ access_of self.now }
     {

@@ -24,7 +24,7 @@ old_register c rd = Some (Register rd (x c rd))
 
 -- the lanes of a word as they are
 abbrev pub old_bytes_in : ℕ → ℕ → Result ℕ MemoryFault → Option Overwritten
-old_bytes_in k mask (Ok w) = Some (Bytes k w mask)
+old_bytes_in k mask (Ok w) = Some (Bytes mask k w)
 old_bytes_in k mask (Err f) = None
 
 abbrev pub overwritten_bytes : (ℕ → Kind) → (ℕ → ℕ) → ℕ → ℕ → Option Overwritten
@@ -78,9 +78,9 @@ entry_of K W c = record { address = c.tr; word = c.ir; clocks = phase_number c.p
 abbrev pub undone_registers : List ℕ → Option Overwritten → List ℕ
 undone_registers rs None = rs
 undone_registers rs (Some (Register n v)) = put_into rs n v
-undone_registers rs (Some (Bytes k v mask)) = rs
+undone_registers rs (Some (Bytes mask k v)) = rs
 
 abbrev pub undone_words : (ℕ → Kind) → (ℕ → ℕ) → Option Overwritten → ℕ → ℕ
 undone_words K W None = W
 undone_words K W (Some (Register n v)) = W
-undone_words K W (Some (Bytes k v mask)) = patched K W k v mask
+undone_words K W (Some (Bytes mask k v)) = patched K W k v mask

@@ -6,7 +6,8 @@ pub enum Overwritten {
     /// The register of this number had this value.
     Register { number: u8, value: u32 },
     /// The word of this number had this value, all four bytes of it. Bit i of the mask says whether lane i was written.
-    Bytes { word: u32, value: u32, mask: u8 },
+    // The mask first: an entry then has 32 bytes, and 40 with the mask last.
+    Bytes { mask: u8, word: u32, value: u32 },
 }
 
 /// One instruction that retired: its address, its word, the clocks that it took, and what it wrote over, if it wrote.

@@ -1,31 +1,36 @@
--- The lanes of a word are put by writing all four bytes of the merged word.
+-- The lanes of a word are put by writing all four bytes of the merged word, one after another.
 -- Assumes nothing.
-use Rattle.std.proofs.Common.{◌≡◌, ℕ, ◌+◌, ◌*◌, ◌/◌, ◌%◌, ◌^◌, ◌<◌, ◌≤◌, true, eqb, ◌≢◌, List, length, get_or, sym, refl, ap, subst, ◌∙◌, inl, inr, arith, below_none, below_more, add-zero, w32}
+use Rattle.std.proofs.Common.{◌≡◌, ℕ, ◌+◌, ◌*◌, ◌/◌, ◌%◌, ◌^◌, ◌<◌, ◌≤◌, true, eqb, ◌≢◌, List, length, get_or, slice_set, sym, ap, subst, ◌∙◌, inl, inr, arith, below_none, below_more, add-zero, w32}
 use Rattle.std.proofs.lemmas.Bool.{cases_Bool, eqb-true, eqb-false}
 use Rattle.std.proofs.lemmas.Grind.{common_steps, same_number_lists}
 use Rattle.std.specs.Int.{to_le_bytes}
-use borrow.Rule.Slice.PartMut.{put_mid}
 use Rattle.memory.proofs.FourLanes.{each_lane}
 use Rattle.memory.specs.Lanes.{merged}
 use Rattle.stores.specs.ByteLaws.{four_there, byte0, byte1, byte2, byte3, lanes_length, lanes_other}
 use Rattle.stores.specs.Layout.{whole, word_at, with_lanes}
 
--- elements in the place of as many, from a on
-module _ (xs ys : List ℕ) (a k : ℕ) (many : length ys ≡ k) (there : a + k ≤ length xs) where
-  put_length : length (put_mid a k xs ys) ≡ length xs
-  put_length = grind (arith, common_steps)
+-- four elements, one after another, from a on
+module _ (xs : List ℕ) (a b0 b1 b2 b3 : ℕ) (there : a + 3 < length xs) where
+  abbrev set : List ℕ
+  set = slice_set (slice_set (slice_set (slice_set xs a b0) (a + 1) b1) (a + 2) b2) (a + 3) b3
 
-  put_below : (j : ℕ) → j < a → get_or (put_mid a k xs ys) j 0 ≡ get_or xs j 0
-  put_below j l = grind (arith, common_steps)
+  set_length : length set ≡ length xs
+  set_length = grind (arith, common_steps)
 
-  put_above : (j : ℕ) → a + k ≤ j → get_or (put_mid a k xs ys) j 0 ≡ get_or xs j 0
-  put_above j l = grind (arith, common_steps)
+  set_outside : (j : ℕ) → (a ≤ j → j < a + 4 → ⊥) → get_or set j 0 ≡ get_or xs j 0
+  set_outside j n = grind (arith, common_steps)
 
-  put_outside : (j : ℕ) → (a ≤ j → j < a + k → ⊥) → get_or (put_mid a k xs ys) j 0 ≡ get_or xs j 0
-  put_outside j n = grind (arith, put_below, put_above)
+  set_0 : get_or set a 0 ≡ b0
+  set_0 = grind (arith, common_steps)
 
-  put_within : (i : ℕ) → i < k → get_or (put_mid a k xs ys) (a + i) 0 ≡ get_or ys i 0
-  put_within i l = grind (arith, common_steps)
+  set_1 : get_or set (a + 1) 0 ≡ b1
+  set_1 = grind (arith, common_steps)
+
+  set_2 : get_or set (a + 2) 0 ≡ b2
+  set_2 = grind (arith, common_steps)
+
+  set_3 : get_or set (a + 3) 0 ≡ b3
+  set_3 = grind (arith, common_steps)
 
 module _ (bs : List ℕ) (k v mask : ℕ) (there : 4 * k + 3 < length bs) (fit : (j : ℕ) → j < 4 → get_or bs (4 * k + j) 0 < 2 ^ 8) where
   abbrev after : List ℕ
@@ -46,20 +51,31 @@ module _ (bs : List ℕ) (k v mask : ℕ) (there : 4 * k + 3 < length bs) (fit :
       (let l = lanes 2 (omega arith) in rw (byte2 bs k v mask there) (grind arith)))
       (let l = lanes 3 (omega arith) in rw (byte3 bs k v mask there) (grind arith))
 
-  put : put_mid (4 * k) 4 bs after ≡ with_lanes bs k v mask
-  put =
-      let there4 : 4 * k + 4 ≤ length bs = omega arith in
-      same_number_lists _ _ (put_length bs after (4 * k) 4 refl there4 ∙ sym (lanes_length bs k v mask)) (λ j h. elim (cases_Bool (eqb (j / 4) k)) [
+  abbrev put : List ℕ
+  put = set bs (4 * k) (get_or after 0 0) (get_or after 1 0) (get_or after 2 0) (get_or after 3 0) there
+
+  put_byte : (i : ℕ) → i < 4 → get_or put (4 * k + i) 0 ≡ get_or (with_lanes bs k v mask) (4 * k + i) 0
+  put_byte =
+      let P : ℕ → Type 0 = λ i. get_or put (4 * k + i) 0 ≡ get_or (with_lanes bs k v mask) (4 * k + i) 0 in
+      let start = ap (λ (i : ℕ). get_or put i 0) (add-zero (4 * k)) in
+      below_more P 3 (below_more P 2 (below_more P 1 (below_more P 0 (below_none P)
+      (start ∙ set_0 bs (4 * k) _ _ _ _ there ∙ byte 0 (omega arith)))
+      (set_1 bs (4 * k) _ _ _ _ there ∙ byte 1 (omega arith)))
+      (set_2 bs (4 * k) _ _ _ _ there ∙ byte 2 (omega arith)))
+      (set_3 bs (4 * k) _ _ _ _ there ∙ byte 3 (omega arith))
+
+  whole_put : put ≡ with_lanes bs k v mask
+  whole_put =
+      same_number_lists _ _ (set_length bs (4 * k) _ _ _ _ there ∙ sym (lanes_length bs k v mask)) (λ j h. elim (cases_Bool (eqb (j / 4) k)) [
         | inl t ↦
             let e : j / 4 ≡ k = eqb-true (j / 4) k t in
             let i : j ≡ 4 * k + j % 4 = omega arith in
-            let l : j % 4 < 4 = omega arith in
-            rw i (put_within bs after (4 * k) 4 refl there4 (j % 4) l ∙ byte (j % 4) l)
+            rw i (put_byte (j % 4) (omega arith))
         | inr t ↦
             let n : j / 4 ≢ k = eqb-false (j / 4) k t in
-            put_outside bs after (4 * k) 4 refl there4 j (λ l h. n (omega arith)) ∙ sym (lanes_other bs k v mask j n)
+            set_outside bs (4 * k) _ _ _ _ there j (λ l h. n (omega arith)) ∙ sym (lanes_other bs k v mask j n)
       ])
 
 -- the same, as the code has it
-pub written : (bs : List ℕ) (k v mask n m : ℕ) (new : List ℕ) → whole (length bs) k ≡ true → ((j : ℕ) → j < 4 → get_or bs (4 * k + j) 0 < 2 ^ 8) → n ≡ 4 → m ≡ merged mask v (word_at bs k) → new ≡ to_le_bytes w32 m → put_mid (4 * k) n bs new ≡ with_lanes bs k v mask
-written bs k v mask n m new w fit e f g = rw (g, f, e) (put bs k v mask (four_there (length bs) k w) fit)
+pub written : (bs : List ℕ) (k v mask m : ℕ) (new : List ℕ) → whole (length bs) k ≡ true → ((j : ℕ) → j < 4 → get_or bs (4 * k + j) 0 < 2 ^ 8) → m ≡ merged mask v (word_at bs k) → new ≡ to_le_bytes w32 m → slice_set (slice_set (slice_set (slice_set bs (4 * k) (get_or new 0 0)) (4 * k + 1) (get_or new 1 0)) (4 * k + 2) (get_or new 2 0)) (4 * k + 3) (get_or new 3 0) ≡ with_lanes bs k v mask
+written bs k v mask m new w fit f g = rw (g, f) (whole_put bs k v mask (four_there (length bs) k w) fit)

@@ -42,7 +42,12 @@ impl Cell for u8 {
         if u8::holds(bytes, k) {
             let word = u32::from_le_bytes(four(bytes, k as usize));
             let i = 4 * (k as usize);
-            bytes[i..i + 4].copy_from_slice(&merge(mask, value, word).to_le_bytes());
+            // One by one: `copy_from_slice` would first look whether the two places overlap.
+            let [b0, b1, b2, b3] = merge(mask, value, word).to_le_bytes();
+            bytes[i] = b0;
+            bytes[i + 1] = b1;
+            bytes[i + 2] = b2;
+            bytes[i + 3] = b3;
         }
     }
 }

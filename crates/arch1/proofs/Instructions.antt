@@ -14,11 +14,18 @@ use Rattle.arch1.specs.declared.phase.Phase.{Phase}
 use Rattle.arch1.specs.declared.phase.Phase.TheVariants.{T0}
 use Rattle.arch1.specs.declared.phase.Ticked.{Ticked}
 
+-- a clock by its contract
+pub by_contract : (K K' : ℕ → Kind) → K' ≡ K → (s t : Rig) (r : Result Ticked CoreFault) →
+    r ≡ tick_answer K' s.words s.core → t.core ≡ ticked_core K' s.words s.core → t.words ≡ ticked_words K' s.words s.core →
+    (answer K s ≡ r) × (t ≡ ticked K s)
+by_contract K K' same s t r told came held =
+    subst (λ (L : ℕ → Kind). (answer L s ≡ r) × (t ≡ ticked L s)) same (sym told, λ i. record { core = came i; words = held i })
+
 -- the loop: a clock by its contract, from s to t with the answer r, and then what is left of four
 module _ (K K' : ℕ → Kind) (same : K' ≡ K) (s t : Rig) (r : Result Ticked CoreFault) (done : ℕ) (few : done < 4)
     (told : r ≡ tick_answer K' s.words s.core) (came : t.core ≡ ticked_core K' s.words s.core) (held : t.words ≡ ticked_words K' s.words s.core) where
-  by_contract : (answer K s ≡ r) × (t ≡ ticked K s)
-  by_contract = subst (λ (L : ℕ → Kind). (answer L s ≡ r) × (t ≡ ticked L s)) same (sym told, λ i. record { core = came i; words = held i })
+  here : (answer K s ≡ r) × (t ≡ ticked K s)
+  here = by_contract K K' same s t r told came held
 
   one_more : 4 - done ≡ suc (4 - (done + 1))
   one_more = omega arith
@@ -26,17 +33,17 @@ module _ (K K' : ℕ → Kind) (same : K' ≡ K) (s t : Rig) (r : Result Ticked 
   pub next_clock : (x : Ticked) → r ≡ Ok x → x.retired ≡ false →
       (answer_for K (4 - (done + 1)) (done + 1) t ≡ answer_for K (4 - done) done s) × (rig_for K (4 - (done + 1)) t ≡ rig_for K (4 - done) s)
   unfolding answer_for rig_for
-  next_clock x e h = rw (one_more, by_contract.0 ∙ e, h, by_contract.1) (refl, refl)
+  next_clock x e h = rw (one_more, here.0 ∙ e, h, here.1) (refl, refl)
 
   pub last_clock : (x : Ticked) → r ≡ Ok x → x.retired ≡ true →
       (Ok (done + 1) ≡ answer_for K (4 - done) done s) × (t ≡ rig_for K (4 - done) s)
   unfolding answer_for rig_for
-  last_clock x e h = rw (one_more, by_contract.0 ∙ e, h) (refl, by_contract.1)
+  last_clock x e h = rw (one_more, here.0 ∙ e, h) (refl, here.1)
 
   pub refused_clock : (f : CoreFault) → r ≡ Err f →
       (Err f ≡ answer_for K (4 - done) done s) × (t ≡ rig_for K (4 - done) s)
   unfolding answer_for rig_for
-  refused_clock f e = rw (one_more, by_contract.0 ∙ e) (refl, by_contract.1)
+  refused_clock f e = rw (one_more, here.0 ∙ e) (refl, here.1)
 
 -- nothing is left
 pub no_clock : (K : ℕ → Kind) (s : Rig) (done : ℕ) → done ≡ 4 → (Ok 4 ≡ answer_for K (4 - done) done s) × (s ≡ rig_for K (4 - done) s)

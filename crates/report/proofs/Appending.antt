@@ -11,7 +11,7 @@ use Rattle.report.specs.Lines.{line_of, reading_of, summary_of}
 use Rattle.report.specs.Listing.{Listed, Adds, Lists}
 use Rattle.report.specs.Listing.Listed.{nothing, instruction, none}
 
-listed_same : {a b : ℕ} {us vs s t : List ℕ} {m n : ℕ} → a ≡ b → us ≡ vs → s ≡ t → m ≡ n → Listed a us s m → Listed b vs t n
+pub listed_same : {a b : ℕ} {us vs s t : List ℕ} {m n : ℕ} → a ≡ b → us ≡ vs → s ≡ t → m ≡ n → Listed a us s m → Listed b vs t n
 listed_same {a} {b} {us} {vs} {s} {t} {m} {n} o w p q h =
     subst (λ (x : ℕ). Listed x vs t n) o (subst (λ (x : List ℕ). Listed a x t n) w (subst (λ (x : ℕ). Listed a us t x) q (subst (λ (x : List ℕ). Listed a us x m) p h)))
 
